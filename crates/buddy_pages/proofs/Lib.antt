@@ -1,0 +1,17 @@
+pub mod Powers
+pub mod Frames
+pub mod Covered
+pub mod Cleared
+pub mod Placed
+pub mod Totals
+pub mod Runs
+pub mod Halves
+pub mod Counted
+pub mod Halved
+pub mod Give
+pub mod Take
+pub mod Seek
+pub mod Fill
+pub mod Collect
+pub mod Single
+pub mod Taken

@@ -1,0 +1,38 @@
+-- What the registry answers.
+use Rattle.std.specs.Prelude.{ℕ, ◌<◌, List, is_some, IsTrue}
+use Rattle.std.specs.Prelude.{Option, None, Some}
+use Rattle.std.specs.FinSet as finset
+use Rattle.ho_base.specs.declared.limits.TheConstants.{OUT_SLOTS, FILES}
+use Rattle.ho_events.specs.Registry.{RegistryState, slot_of}
+use Rattle.ho_events.specs.declared.reply.Reply.{Reply}
+use Rattle.ho_events.specs.declared.reply.Reply.TheVariants.{OkFile, OkSlot, FilesFull, NameTaken, SessionsFull, NoSession}
+
+-- what a new name is answered, by its slot where it is outgoing already, and by the least free slot
+abbrev pub create_answer : Option ℕ → Option ℕ → Reply
+create_answer (Some taken) free = NameTaken
+create_answer None None = SessionsFull
+create_answer None (Some slot) = OkSlot (record { 0 = slot })
+
+-- what the question for a name's slot is answered
+abbrev pub find_answer : Option ℕ → Reply
+find_answer None = NoSession
+find_answer (Some slot) = OkSlot (record { 0 = slot })
+
+-- what the wish for a file number is answered, by the least free one
+abbrev pub file_answer : Option ℕ → Reply
+file_answer None = FilesFull
+file_answer (Some f) = OkFile (record { 0 = f })
+
+-- a name is outgoing
+abbrev pub IsOutgoing : List ℕ → RegistryState → Type 0
+IsOutgoing name s = IsTrue (is_some (slot_of name s.outgoing))
+
+-- a file number is in use
+abbrev pub IsInUse : ℕ → RegistryState → Type 0
+IsInUse f s = IsTrue (finset.contains s.files f)
+
+-- a slot that is answered is an outgoing one, and a file number that is answered is one of a kernel's
+abbrev pub IsWithin : Reply → Type 0
+IsWithin (OkSlot slot) = slot.0 < OUT_SLOTS
+IsWithin (OkFile f) = f.0 < FILES
+IsWithin reply = Unit {0}

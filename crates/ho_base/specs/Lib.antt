@@ -1,0 +1,5 @@
+pub mod BoundRule
+pub mod Bytes
+pub mod NameRule
+pub mod Objects
+pub mod ShapeRule

@@ -1,0 +1,4 @@
+pub mod Written
+pub mod Runs
+pub mod Deeds
+pub mod Stamps

@@ -1,0 +1,15 @@
+pub mod Appended
+pub mod File
+pub mod Handler
+pub mod History
+pub mod Legal
+pub mod Lines
+pub mod Lists
+pub mod Pool
+pub mod Registry
+pub mod Script
+pub mod Sequences
+pub mod Session
+pub mod Slips
+pub mod Text
+pub mod World
