@@ -1,8 +1,8 @@
 -- How an agent's work on a kernel begins and ends.
-use Rattle.std.proofs.Common.{◌≡◌, ◌≢◌, ℕ, ◌+◌, ◌<◌, ◌≤◌, Bool, true, false, ◌==◌, List, [], ◌∷◌, ◌++◌, length, refl, sym, ap, subst, ◌∙◌, arith, slice_index_or, slice_set, get_or-set_same, get_or-set_other, IsTrue, is_some, zero, suc}
+use Rattle.std.proofs.Common.{◌≡◌, ◌≢◌, ℕ, ◌<◌, Bool, true, false, ◌==◌, List, [], ◌∷◌, length, refl, sym, ap, subst, arith, slice_index_or, slice_set, get_or-set_same, get_or-set_other, IsTrue, is_some, zero, suc}
 use Rattle.std.proofs.Common.{◌⊎◌, inl, inr}
 use Rattle.std.specs.Prelude.{Option, None, Some, IsSome, option_map, nat_lt, if◌then◌else◌}
-use Rattle.std.specs.List.{All, list_all}
+use Rattle.std.specs.List.{All}
 use Rattle.std.proofs.Math.ListN.{length-set}
 use Rattle.std.proofs.lemmas.Bool.Decides.{nat_tests, eqb_tells}
 use Rattle.ho_base.specs.ShapeRule.{Layout}
@@ -10,14 +10,14 @@ use Rattle.ho_base.specs.declared.numbers.ObjectNo.{ObjectNo}
 use Rattle.ho_base.specs.declared.limits.TheConstants.{FILES}
 use Rattle.ho_base.specs.Objects.{pool_no, registry_no, session_no, file_no}
 use Rattle.phys_frames.specs.Homes.{Place}
-use Rattle.ho_events.specs.History.{on, by, greatest_stamp, run_from, pool_after, registry_after, handler_after, session_after, file_after, is_run_of_object, paired, paired_after}
-use Rattle.ho_events.specs.Legal.{is_of_kernel, rises_from, are_stamped}
+use Rattle.ho_events.specs.History.{on, by, greatest_stamp, run_from, pool_after, registry_after, session_after, file_after, is_run_of_object, paired, paired_after}
+use Rattle.ho_events.specs.Legal.{rises_from, are_stamped}
 use Rattle.ho_events.specs.declared.entry.Entry.{Entry}
 use Rattle.handover_cli.specs.declared.machine_core.object.Object.{Object}
 use Rattle.handover_cli.specs.declared.machine_core.object.Object.TheVariants as kind_of
 use Rattle.handover_cli.specs.declared.machine_core.plain.Out.{Out}
-use Rattle.handover_cli.specs.Machine.{Spot, PoolSpot, RegistrySpot, SessionSpot, FileSpot, NoSpot, IsOfMachine, IsRunOf, spot_at, spot_of, number_of, history_of, Taken, Hands, no_hands}
-use Rattle.handover_cli.specs.Plain.{number_at, none_out, taken_at, hands_of, object_count, IsAt, IsOutAt, IsHeld, SlotIs, KeepsObjects, KeepsLog}
+use Rattle.handover_cli.specs.Machine.{Spot, PoolSpot, RegistrySpot, SessionSpot, FileSpot, NoSpot, spot_at, Hands, no_hands}
+use Rattle.handover_cli.specs.Plain.{number_at, none_out, taken_at, hands_of, object_count, IsAt, IsOutAt, SlotIs, KeepsObjects, KeepsLog}
 use Rattle.handover_cli.specs.Kernels.{IsLeft}
 use Rattle.handover_cli.proofs.PlainObjects.{no_spot_below}
 

@@ -14,7 +14,7 @@ use Rattle.ho_events.specs.declared.reply.Reply.{Reply}
 use Rattle.ho_events.specs.declared.command.Command.TheVariants.{Close}
 use Rattle.handover_cli.specs.declared.luo_calls.told.CloseTold as close
 use Rattle.handover_cli.specs.Sessions.{close_answer}
-use Rattle.ho_events.specs.Sequences.{Act, Deed, Content, Reference, Labeled, OfFiles, deeds, numbered, acts, session, done, ClosedFile, close_part, closed_reference, file, pool, registry, unless_empty, OfFile}
+use Rattle.ho_events.specs.Sequences.{Act, Content, Reference, Labeled, OfFiles, deeds, numbered, acts, session, done, close_part, closed_reference, file, pool, registry, unless_empty, OfFile}
 use Rattle.ho_events.specs.declared.event.Event.TheVariants.{FileUnpin, PoolUnmark, PoolGive, RegFreeFile, RegFindOut, RegDropName, SessionClose}
 use Rattle.ho_events.specs.declared.reply.Reply.TheVariants.{Ok, OkSlot, KeptRuns, Gone}
 use Rattle.handover_cli.specs.declared.luo_calls.told.ClosedTold.{ClosedTold}

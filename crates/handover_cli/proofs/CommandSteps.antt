@@ -1,10 +1,10 @@
 -- How the turns of a command make its whole sequence.
-use Rattle.std.proofs.Common.{◌≡◌, ℕ, ◌<◌, List, [], ◌∷◌, ◌++◌, map, refl, ap, sym, subst, ◌∙◌, append_assoc}
+use Rattle.std.proofs.Common.{◌≡◌, ℕ, List, [], ◌∷◌, ◌++◌, map, refl, ap, sym, ◌∙◌, append_assoc}
 use Rattle.std.specs.List.{All, AllByRecursion}
 use Rattle.std.proofs.lemmas.List.Elements.{All-from_recursion}
 use Rattle.phys_frames.specs.Homes.{Place}
 use Rattle.phys_frames.specs.Memory.{Run}
-use Rattle.ho_events.specs.Sequences.{Act, Deed, deeds, numbered}
+use Rattle.ho_events.specs.Sequences.{Act, deeds, numbered}
 use Rattle.handover_cli.specs.Files.{AreOf}
 use Rattle.handover_cli.specs.Machine.{Agent}
 use Rattle.handover_cli.specs.Turns.{Did}

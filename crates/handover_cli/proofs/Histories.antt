@@ -1,26 +1,26 @@
 -- An agent's work alone is a legal history.
-use Rattle.std.proofs.Common.{◌≡◌, ℕ, ◌+◌, ◌<◌, ◌≤◌, Bool, true, false, ◌&&◌, ◌==◌, nat_lt, nat_le, IsTrue, List, [], ◌∷◌, ◌++◌, map, filter, length, take, drop, refl, ap, sym, ◌∙◌, subst, arith}
+use Rattle.std.proofs.Common.{◌≡◌, ℕ, ◌+◌, ◌<◌, ◌≤◌, Bool, true, false, ◌&&◌, ◌==◌, nat_lt, nat_le, IsTrue, List, [], ◌∷◌, ◌++◌, map, filter, length, refl, ap, sym, ◌∙◌, subst, arith}
 use Rattle.std.specs.Prelude.{Option, None, Some, option_map, if◌then◌else◌, Result, Ok, Err, IfOk, is_some}
-use Rattle.std.specs.List.{list_all, list_any, flat_map}
+use Rattle.std.specs.List.{list_all}
 use Rattle.std.proofs.lemmas.Grind.{common_steps}
 use Rattle.std.proofs.lemmas.Bool.Decides.{nat_tests}
 use Rattle.std.proofs.lemmas.List.{append-nil}
 use Rattle.std.proofs.Math.Seq.{take-length, drop-length}
 use Rattle.ho_base.specs.ShapeRule.{Layout}
 use Rattle.ho_events.specs.History.{Paired, on, by, paired, paired_after, at_place, log_of, run_from, is_run_of_object}
-use Rattle.ho_events.specs.Legal.{IsInBlocks, IsRound, IsLegal, is_due, has_command, commands_of, is_of_kernel, rises_from, are_stamped}
-use Rattle.ho_events.specs.Sequences.{Act, Deed, Done, Progress, deed_of, deeds, numbered, further, acts, then_done, progress_from, at_first, AreSequences}
+use Rattle.ho_events.specs.Legal.{IsInBlocks, IsRound, IsLegal, is_due, commands_of, is_of_kernel, rises_from, are_stamped}
+use Rattle.ho_events.specs.Sequences.{Act, Deed, Done, Progress, deed_of, deeds, numbered, further, acts, progress_from, at_first, AreSequences}
 use Rattle.ho_events.specs.declared.command.Command.{Command}
 use Rattle.ho_events.specs.declared.entry.Entry.{Entry}
 use Rattle.ho_events.specs.declared.script.AgentWork.{AgentWork}
 use Rattle.ho_events.specs.declared.script.Block.{Block}
-use Rattle.ho_events.specs.declared.script.Block.TheVariants.{Round, Kexec}
+use Rattle.ho_events.specs.declared.script.Block.TheVariants.{Round}
 use Rattle.ho_events.specs.declared.script.Script.{Script}
 use Rattle.ho_events.specs.Script.{is_built_script, is_built_block, is_built_work, is_built}
 use Rattle.ho_base.specs.Objects.{pool_no, registry_no, session_no, file_no}
 use Rattle.ho_base.specs.declared.limits.TheConstants.{FILES}
 use Rattle.ho_events.proofs.Stamps.{and_both, and_left, and_right}
-use Rattle.handover_cli.specs.Rounds.{HasDone, HaveDone, IsWorkOf}
+use Rattle.handover_cli.specs.Rounds.{HaveDone, IsWorkOf}
 use Rattle.handover_cli.specs.Run.{IsHistory, IsLegalText, WritesLegal}
 use Rattle.ho_io.specs.Told.{behind}
 use Rattle.handover_cli.specs.Works.{is_idle}

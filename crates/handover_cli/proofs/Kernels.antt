@@ -1,5 +1,5 @@
 -- How a kernel is built, and how its objects are given up.
-use Rattle.std.proofs.Common.{◌≡◌, ◌≢◌, ℕ, ◌+◌, ◌<◌, ◌≤◌, Bool, true, false, ◌==◌, List, [], ◌∷◌, ◌++◌, length, replicate, refl, sym, ap, subst, ◌∙◌, arith, slice_index_or, slice_set, get_or-set_same, get_or-set_other, IsTrue, is_some, zero, suc}
+use Rattle.std.proofs.Common.{◌≡◌, ◌≢◌, ℕ, ◌+◌, ◌<◌, ◌≤◌, List, [], ◌∷◌, ◌++◌, length, replicate, refl, sym, ap, subst, ◌∙◌, arith, slice_index_or, slice_set, get_or-set_same, get_or-set_other, IsTrue, is_some, zero, suc}
 use Rattle.std.proofs.Common.{inl, inr}
 use Rattle.std.specs.Prelude.{Option, None, Some, IsSome, MatchOption}
 use Rattle.std.specs.List.{All}
@@ -14,15 +14,13 @@ use Rattle.phys_frames.specs.Homes.{Place}
 use Rattle.phys_frames.specs.Memory.{Memory, Run}
 use Rattle.ho_events.specs.File.{FileState}
 use Rattle.ho_events.specs.History.{on, run_from, pool_after, registry_after, session_after, file_after}
-use Rattle.ho_events.specs.declared.entry.Entry.{Entry}
 use Rattle.handover_cli.specs.declared.machine_core.object.Object.{Object}
 use Rattle.handover_cli.specs.declared.machine_core.object.Object.TheVariants as kind_of
-use Rattle.handover_cli.specs.declared.machine_core.plain.Out.{Out}
 use Rattle.handover_cli.specs.Values.{PoolValue, RegistryValue, SessionValue, FileValue}
 use Rattle.handover_cli.specs.Files.{AreOf, page_of, with_page_home, with_file_home}
 use Rattle.handover_cli.specs.Machine.{Spot, PoolSpot, RegistrySpot, SessionSpot, FileSpot, NoSpot, spot_at}
 use Rattle.handover_cli.specs.Plain.{number_at, none_out, object_count, IsAt, IsOutAt, SlotIs, IsHeld, KeepsObjects}
-use Rattle.handover_cli.specs.Kernels.{pool_out, IsBuilt, AreBuilt, IsLeft}
+use Rattle.handover_cli.specs.Kernels.{pool_out, IsBuilt, AreBuilt}
 use Rattle.handover_cli.proofs.PlainObjects.{slot_back}
 use Rattle.handover_cli.proofs.Spots.{spot_at_session, spot_at_file}
 

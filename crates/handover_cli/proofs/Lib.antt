@@ -3,6 +3,8 @@ pub mod ByNames
 pub mod Closes
 pub mod CommandSteps
 pub mod Cuts
+pub mod Drips
+pub mod DueTexts
 pub mod FileReplies
 pub mod FileSteps
 pub mod FirstOf

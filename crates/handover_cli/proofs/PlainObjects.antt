@@ -1,5 +1,5 @@
 -- How the objects of a reach stay in their places while one is taken and given back.
-use Rattle.std.proofs.Common.{◌≡◌, ◌≢◌, ℕ, ◌+◌, ◌<◌, ◌≤◌, Bool, true, false, List, [], ◌∷◌, ◌++◌, length, refl, sym, ap, subst, ◌∙◌, arith, slice_index_or, slice_set, get_or, set, get_or-set_same, get_or-set_other, IsTrue, max}
+use Rattle.std.proofs.Common.{◌≡◌, ◌≢◌, ℕ, ◌<◌, List, length, refl, sym, ap, subst, ◌∙◌, arith, slice_index_or, slice_set, get_or-set_same, get_or-set_other, IsTrue}
 use Rattle.std.specs.Prelude.{Option, None, Some, IsSome, option_map, is_none}
 use Rattle.std.proofs.Math.ListN.{length-set}
 use Rattle.std.proofs.lemmas.Bool.Decides.{nat_tests, eqb_tells}
@@ -11,7 +11,7 @@ use Rattle.ho_events.specs.History.{on}
 use Rattle.ho_events.specs.declared.entry.Entry.{Entry}
 use Rattle.handover_cli.specs.declared.machine_core.object.Object.{Object}
 use Rattle.handover_cli.specs.declared.machine_core.plain.Out.{Out}
-use Rattle.handover_cli.specs.Machine.{Spot, PoolSpot, RegistrySpot, SessionSpot, FileSpot, NoSpot, spot_at, can_begin, can_take, hand_at, Taken, Hands}
+use Rattle.handover_cli.specs.Machine.{Spot, PoolSpot, RegistrySpot, SessionSpot, FileSpot, NoSpot, spot_at, can_begin, can_take, hand_at}
 use Rattle.handover_cli.specs.Plain.{number_at, with_number, taken_at, hands_of, object_count, IsAt, IsOutAt, SlotIs, IsHeld, KeepsObjects}
 
 -- what is in hand of a kind, by its number

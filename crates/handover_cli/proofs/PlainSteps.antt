@@ -1,24 +1,22 @@
 -- What the steps of a reach without threads keep.
-use Rattle.std.proofs.Common.{◌≡◌, ◌≢◌, ℕ, ◌+◌, ◌<◌, ◌≤◌, Bool, true, false, ◌==◌, List, [], ◌∷◌, ◌++◌, length, refl, sym, ap, subst, ◌∙◌, arith, slice_index_or, slice_set, IsTrue, max}
-use Rattle.std.specs.Prelude.{Option, None, Some, IsSome, option_map}
+use Rattle.std.proofs.Common.{◌≡◌, ◌≢◌, ℕ, ◌+◌, ◌<◌, ◌≤◌, false, ◌==◌, List, [], ◌∷◌, ◌++◌, length, refl, sym, ap, subst, ◌∙◌, arith, slice_index_or, slice_set, IsTrue, max}
+use Rattle.std.specs.Prelude.{Option, None, Some, option_map}
 use Rattle.std.proofs.lemmas.Bool.Decides.{nat_tests}
-use Rattle.std.proofs.lemmas.List.{append-nil}
 use Rattle.ho_base.specs.ShapeRule.{Layout}
 use Rattle.ho_base.specs.declared.numbers.ObjectNo.{ObjectNo}
 use Rattle.phys_frames.specs.Homes.{Place}
 use Rattle.ho_events.specs.History.{on, by, is_on, at_place, last_stamp, greatest_stamp}
-use Rattle.ho_events.specs.Legal.{stamp_due, is_of_kernel}
+use Rattle.ho_events.specs.Legal.{is_of_kernel}
 use Rattle.ho_events.specs.Sequences.{object_at}
 use Rattle.ho_events.proofs.Runs.{on_push, on_skip}
 use Rattle.ho_events.proofs.Stamps.{all_push, greatest_push, at_place_greatest, last_below, by_push, stamped_push, rises_push, eq_test, greatest_none}
 use Rattle.ho_events.specs.declared.entry.Entry.{Entry}
-use Rattle.ho_events.specs.declared.entry.Place as place
 use Rattle.ho_events.specs.declared.entry.Place.TheVariants as place_of
 use Rattle.handover_cli.specs.declared.machine_core.object.Object.{Object}
 use Rattle.handover_cli.specs.declared.machine_core.plain.Out.{Out}
 use Rattle.handover_cli.specs.declared.machine_core.object.Object.TheVariants as kind_of
-use Rattle.handover_cli.specs.Machine.{Spot, PoolSpot, RegistrySpot, SessionSpot, FileSpot, NoSpot, IsOfMachine, IsRunOf, spot_at, spot_of, number_of, history_of, hand_at, Taken, Hands, Agent, GivenBack, EndsTurn, EndsCommand, CanEnd}
-use Rattle.handover_cli.specs.Plain.{number_at, with_number, taken_at, hands_of, object_count, IsAt, IsHeld, SlotIs, KeepsObjects, KeepsLog}
+use Rattle.handover_cli.specs.Machine.{Spot, PoolSpot, RegistrySpot, SessionSpot, FileSpot, NoSpot, spot_at, spot_of, number_of, hand_at, Hands, Agent, EndsCommand, CanEnd}
+use Rattle.handover_cli.specs.Plain.{number_at, with_number, taken_at, hands_of, object_count, IsHeld, SlotIs, KeepsObjects, KeepsLog}
 use Rattle.ho_events.specs.History.{Paired, paired}
 use Rattle.ho_events.proofs.Runs.{paired_push}
 use Rattle.handover_cli.specs.Machine.{can_begin, with_hand, logged, history_in, ended, IsButForRoom}

@@ -1,11 +1,10 @@
 -- How the parts of a `preserve` make its whole sequence.
-use Rattle.std.proofs.Common.{◌≡◌, ℕ, List, [], ◌∷◌, ◌++◌, map, refl, ap, sym, subst, ◌∙◌, IsTrue}
-use Rattle.std.specs.Prelude.{Option, Some, None, option_map}
+use Rattle.std.proofs.Common.{◌≡◌, ℕ, List, [], ◌∷◌, ◌++◌, map, refl, ap, sym, ◌∙◌}
+use Rattle.std.specs.Prelude.{Some, option_map}
 use Rattle.ho_base.specs.declared.numbers.Token.{Token}
 use Rattle.ho_base.specs.declared.numbers.FileNo.{FileNo}
 use Rattle.ho_base.specs.declared.numbers.SlotNo.{SlotNo}
-use Rattle.ho_events.specs.Sequences as sequences
-use Rattle.ho_events.specs.Sequences.{Act, Deed, Labeled, deeds, numbered, file_of, acts, registry, preserve_acts_at}
+use Rattle.ho_events.specs.Sequences.{Act, Labeled, deeds, numbered, file_of, acts, registry}
 use Rattle.ho_events.specs.declared.command.Command.TheVariants.{Preserve}
 use Rattle.ho_events.specs.declared.event.Event.TheVariants.{RegFindOut}
 use Rattle.ho_events.specs.declared.reply.Reply.TheVariants.{OkSlot}

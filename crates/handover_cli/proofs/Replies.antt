@@ -1,7 +1,6 @@
 -- Which replies come, from what the objects say of them.
-use Rattle.std.proofs.Common.{◌≡◌, ℕ, ◌<◌, List, sym, subst, refl}
+use Rattle.std.proofs.Common.{◌≡◌, ℕ, List, sym, subst}
 use Rattle.std.specs.Prelude.{Option, Some, None, MatchOption}
-use Rattle.ho_base.specs.declared.limits.TheConstants.{FILES, OUT_SLOTS}
 use Rattle.ho_events.specs.Registry.{RegistryState, slot_of, least_free_slot, least_free_file}
 use Rattle.ho_events.specs.declared.reply.Reply.{Reply}
 use Rattle.handover_cli.specs.Registries.{create_answer, find_answer, file_answer, IsWithin}

@@ -1,10 +1,9 @@
 -- How an agent's work grows by a command.
-use Rattle.std.proofs.Common.{◌≡◌, ℕ, ◌+◌, List, [], ◌∷◌, ◌++◌, map, length, refl, ap, sym, ◌∙◌, subst, arith, length-append, IsTrue, take, ◌<◌, get_or, slice_index_or}
+use Rattle.std.proofs.Common.{◌≡◌, ℕ, ◌+◌, List, [], ◌∷◌, ◌++◌, map, length, refl, ap, sym, ◌∙◌, subst, arith, length-append, take, ◌<◌, get_or}
 use Rattle.std.specs.Prelude.{Option, None, Some, option_map}
-use Rattle.std.specs.List.{list_all}
 use Rattle.std.proofs.lemmas.List.{take_more, length-take}
 use Rattle.ho_events.specs.History.{Paired}
-use Rattle.ho_events.specs.Sequences.{Act, Deed, Done, Labeled, Progress, Outcome, acts, deeds, numbered, labels_after, further, then_done, progress_from, at_first, AreSequences}
+use Rattle.ho_events.specs.Sequences.{Act, Deed, Done, Labeled, Progress, Outcome, acts, deeds, numbered, labels_after, further, then_done, progress_from, at_first}
 use Rattle.ho_events.specs.declared.command.Command.{Command}
 use Rattle.ho_events.proofs.Deeds.{progress_push}
 use Rattle.handover_cli.specs.Rounds.{HasDone}

@@ -1,5 +1,5 @@
 -- Which kinds of objects the numbers of slots and files are.
-use Rattle.std.proofs.Common.{◌≡◌, ℕ, ◌+◌, ◌<◌, Bool, true, false, refl, arith}
+use Rattle.std.proofs.Common.{◌≡◌, ℕ, ◌+◌, ◌<◌, arith}
 use Rattle.std.proofs.lemmas.Bool.Decides.{nat_tests}
 use Rattle.ho_base.specs.declared.limits.TheConstants.{FILES, OUT_SLOTS, IN_SLOTS}
 use Rattle.ho_base.specs.Objects.{session_no, file_no}

@@ -1,6 +1,5 @@
 -- How a command ends.
 use Rattle.std.specs.Prelude.{◌≡◌, ℕ, List}
-use Rattle.phys_frames.specs.Memory.{Run}
 use Rattle.ho_events.specs.Sequences.{Labeled, labels_after}
 use Rattle.ho_events.specs.declared.command.Command.{Command}
 use Rattle.handover_cli.specs.Machine.{Agent}

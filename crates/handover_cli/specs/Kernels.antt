@@ -6,7 +6,7 @@ use Rattle.phys_frames.specs.Homes.{Place}
 use Rattle.handover_cli.specs.declared.machine_core.object.Object as object
 use Rattle.handover_cli.specs.declared.machine_core.object.Object.TheVariants.{Pool, Registry, Session, File}
 use Rattle.handover_cli.specs.declared.machine_core.plain.Out.{Out}
-use Rattle.handover_cli.specs.Machine.{Spot, spot_at}
+use Rattle.handover_cli.specs.Machine.{spot_at}
 use Rattle.handover_cli.specs.Plain.{IsOutAt, IsAt}
 
 -- a kernel that began cold: its number, its machine's shape and the home of its frames

@@ -1,7 +1,9 @@
+pub mod Asked
 pub mod ByName
 pub mod CloseLoop
 pub mod Closes
 pub mod Commands
+pub mod Due
 pub mod FileShown
 pub mod Files
 pub mod Kernels
@@ -12,6 +14,7 @@ pub mod Plain
 pub mod PlainTurns
 pub mod PoolFlags
 pub mod Reader
+pub mod Refusals
 pub mod Registries
 pub mod RegistryShown
 pub mod Replies

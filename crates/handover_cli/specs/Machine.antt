@@ -1,15 +1,13 @@
 -- The objects of a kernel, and what an agent has in hand.
-use Rattle.std.specs.Prelude.{◌≡◌, ℕ, ◌+◌, ◌<◌, ◌≤◌, Bool, true, false, ◌&&◌, ◌==◌, nat_lt, max, if◌then◌else◌, is_some, is_none, IsTrue, List, [], ◌∷◌, ◌++◌, Option, None, Some, MatchOption, unwrap_or}
+use Rattle.std.specs.Prelude.{◌≡◌, ℕ, ◌+◌, ◌<◌, ◌≤◌, Bool, false, ◌==◌, nat_lt, max, if◌then◌else◌, is_some, is_none, IsTrue, List, [], ◌∷◌, ◌++◌, Option, None, Some}
 use Rattle.ho_base.specs.ShapeRule.{Layout}
 use Rattle.ho_base.specs.declared.limits.TheConstants.{FILES}
 use Rattle.ho_base.specs.Objects.{pool_no, registry_no, session_no, file_no}
 use Rattle.ho_events.specs.History.{Paired, last_stamp, pool_after, registry_after, session_after, file_after}
 use Rattle.ho_events.specs.Sequences.{object_at}
 use Rattle.ho_events.specs.declared.entry.Entry.{Entry}
-use Rattle.ho_events.specs.declared.entry.Place.{Place}
 use Rattle.ho_events.specs.declared.entry.Place.TheVariants.{Own}
 use Rattle.phys_frames.specs.Homes as home
-use Rattle.handover_cli.specs.Values.{PoolValue, RegistryValue, SessionValue, FileValue}
 use Rattle.handover_cli.specs.declared.machine_core.object.Object as object
 use Rattle.handover_cli.specs.declared.machine_core.object.Object.TheVariants.{Pool, Registry, Session, File}
 

@@ -1,5 +1,5 @@
 -- What a reach without threads keeps of its kernel's objects and of its log.
-use Rattle.std.specs.Prelude.{◌≡◌, ℕ, ◌+◌, ◌<◌, IsTrue, List, [], ◌∷◌, ◌++◌, length, slice_index_or, option_map, Option, None, Some, MatchOption}
+use Rattle.std.specs.Prelude.{◌≡◌, ℕ, ◌<◌, IsTrue, List, [], ◌∷◌, ◌++◌, length, slice_index_or, option_map, Option, None, Some}
 use Rattle.std.specs.List.{list_all}
 use Rattle.ho_base.specs.ShapeRule.{Layout}
 use Rattle.ho_base.specs.declared.numbers.ObjectNo.{ObjectNo}

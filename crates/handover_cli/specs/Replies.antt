@@ -1,5 +1,5 @@
 -- The replies that come to some events.
-use Rattle.std.specs.Prelude.{◌≡◌, ℕ, ◌<◌, List, []}
+use Rattle.std.specs.Prelude.{◌≡◌, ◌<◌, List, []}
 use Rattle.ho_base.specs.declared.limits.TheConstants.{FILES, OUT_SLOTS}
 use Rattle.ho_events.specs.declared.reply.Reply.{Reply}
 use Rattle.ho_events.specs.declared.reply.Reply.TheVariants.{OkFile, OkSlot, OkRuns, KeptRuns, Gone, FilesFull, NameTaken, SessionsFull, NoSession, NotFinished, AlreadyPinned}

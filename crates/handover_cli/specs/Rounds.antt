@@ -1,10 +1,10 @@
 -- How far an agent came in its work, and what its work leaves.
-use Rattle.std.specs.Prelude.{◌≡◌, ℕ, ◌+◌, IsTrue, List, [], map, length, Option, Some}
+use Rattle.std.specs.Prelude.{◌≡◌, ℕ, ◌+◌, IsTrue, List, [], map, length, Some}
 use Rattle.std.specs.List.{list_all}
 use Rattle.ho_base.specs.ShapeRule.{Layout}
 use Rattle.ho_events.specs.History.{Paired, on, by, paired, is_run_of_object}
 use Rattle.ho_events.specs.Legal.{is_of_kernel, rises_from, are_stamped}
-use Rattle.ho_events.specs.Sequences.{Labeled, Done, deeds, at_first, progress_from, AreSequences}
+use Rattle.ho_events.specs.Sequences.{Labeled, Done, deeds, at_first, progress_from}
 use Rattle.ho_events.specs.declared.command.Command.{Command}
 use Rattle.ho_events.specs.declared.entry.Entry.{Entry}
 

@@ -1,12 +1,10 @@
 -- What turns and commands of an agent do.
-use Rattle.std.specs.Prelude.{◌≡◌, ℕ, ◌<◌, List, [], ◌∷◌, ◌++◌, map, option_map, Option, Some, None}
-use Rattle.ho_base.specs.declared.limits.TheConstants.{FILES, OUT_SLOTS}
-use Rattle.ho_events.specs.History.{Paired}
-use Rattle.ho_events.specs.Sequences.{Act, Deed, Labeled, Outcome, deeds, numbered, acts}
+use Rattle.std.specs.Prelude.{◌≡◌, ℕ, List, ◌++◌, map, option_map, Option, Some, None}
+use Rattle.ho_events.specs.Sequences.{Act, Labeled, Outcome, deeds, numbered, acts}
 use Rattle.ho_events.specs.declared.command.Command.{Command}
 use Rattle.ho_events.specs.declared.slip.At.{At}
 use Rattle.ho_events.specs.declared.reply.Reply.{Reply}
-use Rattle.ho_events.specs.declared.reply.Reply.TheVariants.{Ok, OkFile, OkSlot, FilesFull, NameTaken, SessionsFull, NoSession}
+use Rattle.ho_events.specs.declared.reply.Reply.TheVariants.{OkSlot, NoSession}
 use Rattle.handover_cli.specs.Machine.{Agent}
 
 -- a command's place in history is that of the agent: its number, its kernel and its last stamp

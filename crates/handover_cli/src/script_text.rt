@@ -10,6 +10,7 @@ mod words;
 ghost use Rattle.std.specs.Prelude.{◌≡◌, ◌<◌, ℕ, List, length, IfOk, IfErr, IsTrue, Some, is_some, is_none};
 ghost use Rattle.ho_events.specs.Script.{script_of, refused_line, is_built_script};
 ghost use Rattle.handover_cli.specs.ScriptText.{Tells};
+ghost use Rattle.handover_cli.specs.Works.{is_short};
 
 use crate::script_text::reader::Reader;
 use crate::script_text::words::next_line;
@@ -41,6 +42,7 @@ pub fn read(alloc: Global, bytes: &[u8]) -> Result<Script, ScriptError>
     requires { length bytes.now < u32.MAX }
     ensures ok { IfOk result (λ script. script_of bytes.now ≡ Some script) }
     ensures built { IfOk result (λ script. IsTrue (is_built_script script)) }
+    ensures short { IfOk result (λ script. IsTrue (is_short script)) }
     ensures bad { IfErr result (Tells (refused_line bytes.now)) }
 {
     let mut reader = Reader::new(alloc);

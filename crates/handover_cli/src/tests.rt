@@ -1,6 +1,9 @@
 //! Worked runs over a host in memory.
 
+mod drip;
+
 use crate::run::{Status, run};
+use crate::tests::drip::{DROP_BYTES, Drip};
 use ho_io::MemHost;
 use std::alloc::{AllocError, Global};
 use std::test::Fail;
@@ -144,12 +147,38 @@ fn answers_with_a_fault(rt: HostRuntime) -> Result<(), Fail> {
         Status::WriteFault
     );
     assert!(rt; HISTORY.starts_with(unwritten.out()));
-    let mut unnamed = host_of(alloc, SCRIPT, [].as_slice())?;
-    assert_eq!(rt; run(alloc, &words[..1], &mut unnamed), Status::Usage);
+    Ok(())
+}
+
+#[test]
+fn answers_words_that_fit_nothing(rt: HostRuntime) -> Result<(), Fail> {
+    let alloc = rt.alloc();
+    let mut host = host_of(alloc, SCRIPT, [].as_slice())?;
+    assert_eq!(rt; run(alloc, &[], &mut host), Status::Usage);
+    let words = run_words(alloc)?;
+    for word in words.as_slice() {
+        let mut alone = Vec::new(alloc);
+        alone.push(word.clone()?)?;
+        assert_eq!(rt; run(alloc, alone.as_slice(), &mut host), Status::Usage);
+    }
     assert!(rt;
-        unnamed
-            .out()
+        host.out()
             .starts_with(b"usage: handover run SCRIPT".as_slice())
     );
+    let mut unwritten = host_of(alloc, SCRIPT, [(0, 1)].as_slice())?;
+    assert_eq!(rt; run(alloc, &[], &mut unwritten), Status::WriteFault);
+    assert_eq!(rt; unwritten.out().len(), 0);
+    Ok(())
+}
+
+#[test]
+fn stops_where_a_later_write_fails(rt: HostRuntime) -> Result<(), Fail> {
+    let alloc = rt.alloc();
+    let words = run_words(alloc)?;
+    // The first call opens the script, the next three write.
+    let host = host_of(alloc, SCRIPT, [(0, 4)].as_slice())?;
+    let mut drip = Drip { host };
+    assert_eq!(rt; run(alloc, words.as_slice(), &mut drip), Status::WriteFault);
+    assert_eq!(rt; drip.host.out(), &HISTORY[..2 * DROP_BYTES]);
     Ok(())
 }

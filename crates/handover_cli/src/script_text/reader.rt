@@ -5,6 +5,7 @@ ghost use Rattle.ho_events.specs.Script.{nothing_read, after_line as after_rule,
 ghost use Rattle.ho_events.specs.Script.{is_unbuilt_command as unbuilt_rule, binds_again as again_rule, is_built};
 ghost use Rattle.ho_events.specs.Script.Lines.{is_formed};
 ghost use Rattle.ho_events.specs.Script.Words.{is_comment as comment_rule};
+ghost use Rattle.handover_cli.specs.Works.{is_short};
 ghost use Rattle.ho_events.specs.declared.line.Line.TheVariants.{Machine, Scratch, Round, Agent, Command as Act};
 
 use crate::script_text::lines::read_line;
@@ -90,6 +91,7 @@ impl Reader {
     pub fn into_script(self, alloc: Global) -> Result<Option<Script>, AllocError>
         ensures exact { IfOk result (λ script. script ≡ finished self) }
         ensures built { IfOk result (λ script. MatchOption script ⊤ (λ s. IsTrue (is_built_script s))) }
+        ensures short { IfOk result (λ script. MatchOption script ⊤ (λ s. IsTrue (is_short s))) }
     {
         let Reader {
             shape,

@@ -1,5 +1,4 @@
-use Rattle.std.proofs.Common.{◌≡◌, ◌+◌, ◌-◌, ◌≤◌, vec_len, ap, sym, subst, refl, arith}
-use Rattle.handover_cli.specs.declared.machine_core.plain.PlainReach.TheInside.{Inside}
+use Rattle.std.proofs.Common.{◌-◌, vec_len, sym, subst, refl, arith}
 use Rattle.handover_cli.specs.contracts.machine_core.plain.PlainReach.{the_view}
 use Rattle.handover_cli.specs.Machine.{Agent, CanEnd, hand_at, spot_of, ended, IsButForRoom}
 use Rattle.std.specs.Vec.{vec_capacity}

@@ -1,9 +1,9 @@
-use Rattle.std.proofs.Common.{◌≡◌, ◌+◌, ◌-◌, ◌≤◌, vec_len, ◌++◌, ◌∷◌, [], ap, sym, subst, refl, ◌∙◌}
+use Rattle.std.proofs.Common.{◌-◌, vec_len, [], sym, subst, refl}
 use Rattle.handover_cli.specs.contracts.machine_core.plain.PlainReach.{the_view}
 use Rattle.handover_cli.specs.Machine.{Agent, EndsCommand, logged, IsButForRoom}
 use Rattle.std.specs.Vec.{vec_capacity}
 use Rattle.ho_events.specs.History.{paired}
-use Rattle.handover_cli.specs.Plain.{hands_of, KeepsObjects, KeepsLog}
+use Rattle.handover_cli.specs.Plain.{hands_of}
 use Rattle.handover_cli.proofs.PlainSteps.{own_keeps, own_log, own_gives}
 use Rattle.handover_cli.proofs.machine_core.plain.PlainReachReach.own.Goals as goal
 
