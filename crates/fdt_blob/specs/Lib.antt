@@ -1,0 +1,5 @@
+pub mod Trees
+pub mod Nodes
+pub mod Tokens
+pub mod Blob
+pub mod Spelling
