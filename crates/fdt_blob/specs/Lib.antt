@@ -3,3 +3,4 @@ pub mod Nodes
 pub mod Tokens
 pub mod Blob
 pub mod Spelling
+pub mod Writing

@@ -1,6 +1,10 @@
 //! Devicetree blobs, read and written exactly (Devicetree Specification v0.4, chapter 5, version 17).
 #![tactic(auto)]
 
+mod profile;
 pub mod tree;
+pub mod writer;
 
+pub use profile::valid;
 pub use tree::{FdtPlace, Node, NodeAt, Prop};
+pub use writer::WriteError;
