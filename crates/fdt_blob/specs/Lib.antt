@@ -4,3 +4,8 @@ pub mod Tokens
 pub mod Blob
 pub mod Spelling
 pub mod Writing
+pub mod Reading
+pub mod Blocks
+pub mod Items
+pub mod Shape
+pub mod Places

@@ -1,8 +1,14 @@
 //! Devicetree blobs, read and written exactly (Devicetree Specification v0.4, chapter 5, version 17).
 #![tactic(auto)]
 
+mod blocks;
+mod items;
+mod names;
 mod profile;
+mod reading;
+mod shape;
 pub mod tree;
+mod walk;
 pub mod writer;
 
 pub use profile::valid;

@@ -1,0 +1,147 @@
+//! The header of a blob and the blocks that it names (5.2, 5.3).
+
+ghost use Rattle.std.specs.Prelude.{◌≡◌, ◌+◌, ◌-◌, ◌*◌, ◌/◌, ◌≤◌, ◌<◌, ◌^◌, nat_eq, take, drop, length, IsTrue, IfSome, MatchOption};
+ghost use Rattle.std.specs.List.{list_all};
+ghost use Rattle.std.specs.Option.{option_map, option_map_or};
+ghost use Rattle.fdt_blob.specs.Blob.{word_at as word_spec, has_header as header_spec, has_blocks as blocks_spec, structure_block as structure_spec, strings_block as strings_spec, first_pair as first_pair_spec, header_block, apart, is_placed as placed_spec, block_end, reservations_size as size_spec, reservations_block as reservations_spec, is_apart_from_blocks, bytes_of, total_of, is_ending_pair as ending_spec};
+ghost use Rattle.fdt_blob.specs.Blocks.{block_view};
+
+/// The first word of a blob.
+const MAGIC: u32 = 0xd00d_feed;
+
+/// The version of the format.
+const VERSION: u32 = 17;
+
+/// The version that a reader must know at least.
+const COMPATIBLE: u32 = 16;
+
+/// The bytes of the header.
+const HEADER_BYTES: u32 = 40;
+
+/// The bytes of a pair in the reservation block.
+const PAIR_BYTES: u32 = 16;
+
+/// A part of a blob.
+#[derive(Clone, Copy)]
+pub(crate) struct Block {
+    /// Where it begins.
+    pub at: u32,
+    /// How many bytes it has.
+    pub size: u32,
+}
+
+/// The number that the four bytes from a place on spell, the highest byte first.
+fn word_at(bytes: &[u8], at: usize) -> u32
+    requires { at + 4 ≤ length bytes.now }
+    ensures { result ≡ word_spec bytes.now at }
+{
+    let mut four = [0; 4];
+    four.copy_from_slice(&bytes[at..at + 4]);
+    u32::from_be_bytes(four)
+}
+
+/// Where a block ends.
+fn end_of(block: Block) -> u64
+    ensures { result ≡ block_end (block_view block) }
+{
+    u64::from(block.at) + u64::from(block.size)
+}
+
+/// Whether two blocks share no byte.
+fn are_apart(a: Block, b: Block) -> bool
+    ensures { result ≡ apart (block_view a) (block_view b) }
+{
+    a.size == 0 || b.size == 0 || end_of(a) <= u64::from(b.at) || end_of(b) <= u64::from(a.at)
+}
+
+/// Whether a block is aligned and ends within the total.
+fn is_placed(total: u32, alignment: u32, block: Block) -> bool
+    requires { 0 < alignment }
+    ensures { result ≡ placed_spec total alignment (block_view block) }
+{
+    block.at % alignment == 0 && end_of(block) <= u64::from(total)
+}
+
+/// The structure block.
+pub(crate) fn structure_block(bytes: &[u8]) -> Block
+    requires { 40 ≤ length bytes.now }
+    ensures { block_view result ≡ structure_spec bytes.now }
+{
+    Block {
+        at: word_at(bytes, 8),
+        size: word_at(bytes, 36),
+    }
+}
+
+/// The strings block.
+pub(crate) fn strings_block(bytes: &[u8]) -> Block
+    requires { 40 ≤ length bytes.now }
+    ensures { block_view result ≡ strings_spec bytes.now }
+{
+    Block {
+        at: word_at(bytes, 12),
+        size: word_at(bytes, 32),
+    }
+}
+
+/// The first pair of the reservation block.
+fn first_pair(bytes: &[u8]) -> Block
+    requires { 40 ≤ length bytes.now }
+    ensures { block_view result ≡ first_pair_spec bytes.now }
+{
+    Block {
+        at: word_at(bytes, 16),
+        size: PAIR_BYTES,
+    }
+}
+
+/// The whole blob's bytes, as its header says.
+fn total_of_blob(bytes: &[u8]) -> u32
+    requires { 40 ≤ length bytes.now }
+    ensures { result ≡ total_of bytes.now }
+{
+    word_at(bytes, 4)
+}
+
+/// Whether the header keeps its rules (5.2).
+pub(crate) fn has_header(bytes: &[u8]) -> bool
+    ensures { result ≡ header_spec bytes.now }
+{
+    bytes.len() >= HEADER_BYTES as usize
+        && word_at(bytes, 0) == MAGIC
+        && word_at(bytes, 20) == VERSION
+        && word_at(bytes, 24) == COMPATIBLE
+        && total_of_blob(bytes) >= HEADER_BYTES
+        && total_of_blob(bytes) as usize <= bytes.len()
+}
+
+/// Whether the blocks that the header names are aligned, within the total and apart (5.2).
+pub(crate) fn has_blocks(bytes: &[u8]) -> bool
+    requires { 40 ≤ length bytes.now }
+    ensures { result ≡ blocks_spec bytes.now }
+{
+    let total = total_of_blob(bytes);
+    let header = Block {
+        at: 0,
+        size: HEADER_BYTES,
+    };
+    let pair = first_pair(bytes);
+    let structure = structure_block(bytes);
+    let strings = strings_block(bytes);
+    is_placed(total, 8, pair)
+        && is_placed(total, 4, structure)
+        && is_placed(total, 1, strings)
+        && are_apart(header, pair)
+        && are_apart(header, structure)
+        && are_apart(header, strings)
+        && are_apart(pair, structure)
+        && are_apart(pair, strings)
+        && are_apart(structure, strings)
+}
+
+/// Whether the first 16 bytes are the pair (0, 0).
+fn is_ending_pair(bytes: &[u8]) -> bool
+    ensures { result ≡ list_all (nat_eq 0) bytes.now }
+{
+    bytes.iter().all(|b| 0 == *b)
+}
