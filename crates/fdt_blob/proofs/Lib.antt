@@ -1,3 +1,5 @@
 pub mod NodeLemmas
 pub mod Texts
 pub mod Shapes
+pub mod SortedNames
+pub mod Pairs

@@ -1,6 +1,6 @@
 //! The header of a blob and the blocks that it names (5.2, 5.3).
 
-ghost use Rattle.std.specs.Prelude.{◌≡◌, ◌+◌, ◌-◌, ◌*◌, ◌/◌, ◌≤◌, ◌<◌, ◌^◌, nat_eq, take, drop, length, IsTrue, IfSome, MatchOption};
+ghost use Rattle.std.specs.Prelude.{◌≡◌, ◌+◌, ◌-◌, ◌*◌, ◌/◌, ◌≤◌, ◌<◌, ◌^◌, nat_eq, take, drop, length, IsTrue, false};
 ghost use Rattle.std.specs.List.{list_all};
 ghost use Rattle.std.specs.Option.{option_map, option_map_or};
 ghost use Rattle.fdt_blob.specs.Blob.{word_at as word_spec, has_header as header_spec, has_blocks as blocks_spec, structure_block as structure_spec, strings_block as strings_spec, first_pair as first_pair_spec, header_block, apart, is_placed as placed_spec, block_end, reservations_size as size_spec, reservations_block as reservations_spec, is_apart_from_blocks, bytes_of, total_of, is_ending_pair as ending_spec};
@@ -139,9 +139,67 @@ pub(crate) fn has_blocks(bytes: &[u8]) -> bool
         && are_apart(structure, strings)
 }
 
-/// Whether the first 16 bytes are the pair (0, 0).
-fn is_ending_pair(bytes: &[u8]) -> bool
+/// Whether all of the bytes are zero, as those of the pair (0, 0).
+fn is_zero(bytes: &[u8]) -> bool
     ensures { result ≡ list_all (nat_eq 0) bytes.now }
 {
     bytes.iter().all(|b| 0 == *b)
+}
+
+/// The bytes of a reservation block with its ending pair, which is one of the first `count` pairs; none where it is not.
+fn reservations_size(count: u32, bytes: &[u8]) -> Option<u32>
+    requires fits { 16 * count < 2 ^ 32 }
+    requires within { 16 * count ≤ length bytes.now }
+    ensures { result ≡ size_spec count bytes.now }
+{
+    let mut rest = bytes;
+    for done in 0..count {
+        let (pair, behind) = rest.split_at(PAIR_BYTES as usize);
+        if is_zero(pair) {
+            return Some(PAIR_BYTES + PAIR_BYTES * done);
+        }
+        rest = behind;
+    }
+    None
+}
+
+/// The whole reservation block; none where its ending pair does not stand within the total.
+fn reservations_block(bytes: &[u8]) -> Option<Block>
+    requires header { IsTrue (header_spec bytes.now) }
+    requires blocks { IsTrue (blocks_spec bytes.now) }
+    ensures { option_map block_view result ≡ reservations_spec bytes.now }
+{
+    let at = first_pair(bytes).at;
+    let count = (total_of_blob(bytes) - at) / PAIR_BYTES;
+    let size = reservations_size(count, &bytes[at as usize..])?;
+    Some(Block { at, size })
+}
+
+/// Whether the reservation block ends within the total and overlaps no other block (5.3).
+pub(crate) fn has_reservations(bytes: &[u8]) -> bool
+    requires header { IsTrue (header_spec bytes.now) }
+    requires blocks { IsTrue (blocks_spec bytes.now) }
+    ensures { result ≡ option_map_or (is_apart_from_blocks bytes.now) (reservations_spec bytes.now) false }
+{
+    let header = Block {
+        at: 0,
+        size: HEADER_BYTES,
+    };
+    match reservations_block(bytes) {
+        None => false,
+        Some(block) => {
+            are_apart(block, header)
+                && are_apart(block, structure_block(bytes))
+                && are_apart(block, strings_block(bytes))
+        }
+    }
+}
+
+/// The bytes of a block.
+pub(crate) fn bytes_of_block(block: Block, bytes: &[u8]) -> &[u8]
+    requires { block_end (block_view block) ≤ length bytes.now }
+    ensures { result.now ≡ bytes_of (block_view block) bytes.now }
+{
+    let start = block.at as usize;
+    &bytes[start..start + block.size as usize]
 }

@@ -2,6 +2,7 @@
 #![tactic(auto)]
 
 mod blocks;
+mod doubles;
 mod items;
 mod names;
 mod profile;
