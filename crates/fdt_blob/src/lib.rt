@@ -8,10 +8,11 @@ mod names;
 mod profile;
 mod reading;
 mod shape;
+mod strings;
 pub mod tree;
 mod walk;
 pub mod writer;
 
 pub use profile::valid;
 pub use tree::{FdtPlace, Node, NodeAt, Prop};
-pub use writer::WriteError;
+pub use writer::{WriteError, write};
