@@ -5,3 +5,7 @@ pub mod SortedNames
 pub mod Pairs
 pub mod NameLemmas
 pub mod WriteLemmas
+pub mod TreeItems
+pub mod ApartItems
+pub mod ShapeOf
+pub mod Bytes
