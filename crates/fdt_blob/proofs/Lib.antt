@@ -9,3 +9,4 @@ pub mod TreeItems
 pub mod ApartItems
 pub mod ShapeOf
 pub mod Bytes
+pub mod TokenBytes
