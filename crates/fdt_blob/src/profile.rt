@@ -6,13 +6,11 @@ ghost use Rattle.fdt_blob.specs.Trees as trees;
 ghost use Rattle.fdt_blob.specs.Nodes.{property_view, tree_view};
 ghost use Rattle.fdt_blob.specs.Writing.{trees_of};
 
+use crate::names::{is_node_name, is_property_name};
 use crate::tree::{Node, Prop};
 
 /// The most levels of a tree, counted from the root as 1.
 const LEVELS: u32 = 16;
-
-/// The most bytes of a name.
-const NAME_BYTES: usize = 31;
 
 /// Whether a tree keeps to the profile: the root's name is empty, each other name has 1 to 31 bytes of its set
 /// (Devicetree Specification v0.4, 2.2.1 and 2.2.4), no name stands twice among the properties of a node or
@@ -143,46 +141,4 @@ pub(crate) fn is_same(a: &[u8], b: &[u8]) -> bool
     ensures { result ≡ trees.same_name a.now b.now }
 {
     a == b
-}
-
-/// Whether these bytes are a property's name.
-fn is_property_name(name: &[u8]) -> bool
-    ensures { result ≡ trees.is_property_name name.now }
-{
-    !name.is_empty() && name.len() <= NAME_BYTES && have_property_bytes(name)
-}
-
-/// Whether these bytes are the name of a node that isn't the root.
-fn is_node_name(name: &[u8]) -> bool
-    ensures { result ≡ trees.is_node_name name.now }
-{
-    !name.is_empty() && name.len() <= NAME_BYTES && have_name_bytes(name)
-}
-
-/// Whether a property's name may have each of these bytes.
-fn have_property_bytes(name: &[u8]) -> bool
-    ensures { result ≡ list_all trees.is_property_byte name.now }
-{
-    name.iter().all(|b| is_property_byte(*b))
-}
-
-/// Whether a node's name may have each of these bytes.
-fn have_name_bytes(name: &[u8]) -> bool
-    ensures { result ≡ list_all trees.is_name_byte name.now }
-{
-    name.iter().all(|b| is_name_byte(*b))
-}
-
-/// Whether a property's name may have this byte.
-fn is_property_byte(b: u8) -> bool
-    ensures { result ≡ trees.is_property_byte b }
-{
-    is_name_byte(b) || matches!(b, b'?' | b'#')
-}
-
-/// Whether a node's name may have this byte.
-fn is_name_byte(b: u8) -> bool
-    ensures { result ≡ trees.is_name_byte b }
-{
-    matches!(b, b'0'..=b'9' | b'A'..=b'Z' | b'a'..=b'z' | b',' | b'.' | b'_' | b'+' | b'-')
 }
