@@ -10,3 +10,4 @@ pub mod ApartItems
 pub mod ShapeOf
 pub mod Bytes
 pub mod TokenBytes
+pub mod Cutting

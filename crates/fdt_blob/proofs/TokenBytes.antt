@@ -16,16 +16,16 @@ pub record Takes (strings bytes : List ℕ) (t : Token) (rest : List ℕ) : Type
 some_is : {A : Type 0} (x y : A) → Some x ≡ Some y → x ≡ y
 some_is x y e = cc
 
-abbrev found : Token → List ℕ → Option (Token × List ℕ)
+abbrev pub found : Token → List ℕ → Option (Token × List ℕ)
 found t rest = Some (t, rest)
 
-token_is : (t u : Token) (a b : List ℕ) → found t a ≡ found u b → t ≡ u
+pub token_is : (t u : Token) (a b : List ℕ) → found t a ≡ found u b → t ≡ u
 token_is t u a b e = ap (λ (p : Token × List ℕ). p.0) (some_is (t, a) (u, b) e)
 
-rest_is : (t u : Token) (a b : List ℕ) → found t a ≡ found u b → a ≡ b
+pub rest_is : (t u : Token) (a b : List ℕ) → found t a ≡ found u b → a ≡ b
 rest_is t u a b e = ap (λ (p : Token × List ℕ). p.1) (some_is (t, a) (u, b) e)
 
-none_found : (t : Token) (rest : List ℕ) → None ≡ found t rest → ⊥
+pub none_found : (t : Token) (rest : List ℕ) → None ≡ found t rest → ⊥
 none_found t rest e = cc
 
 -- which way a test went

@@ -7,5 +7,6 @@ pub mod Writing
 pub mod Reading
 pub mod Blocks
 pub mod Items
+pub mod Cut
 pub mod Shape
 pub mod Places

@@ -8,6 +8,7 @@ mod names;
 mod profile;
 mod reading;
 mod shape;
+mod structure;
 mod strings;
 pub mod tree;
 mod walk;
