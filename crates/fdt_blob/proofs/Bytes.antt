@@ -117,7 +117,7 @@ before_zero_takes (suc b ∷ bytes) text e =
     let r = before_zero_takes bytes f.0 f.1 in
     let positive : nat_lt 0 (suc b) ≡ true = lt-ltb 0 (suc b) (omega arith) in
     subst (λ (t : List ℕ). (more : List ℕ) × (suc b ∷ bytes ≡ t ++ 0 ∷ more) × (list_all (nat_lt 0) t ≡ true)) (some_is (suc b ∷ f.0) text f.2)
-        (r.0, ap (λ (x : List ℕ). suc b ∷ x) r.1, and_from (nat_lt 0 (suc b)) (list_all (nat_lt 0) f.0) positive r.2)
+    (r.0, ap (λ (x : List ℕ). suc b ∷ x) r.1, and_from (nat_lt 0 (suc b)) (list_all (nat_lt 0) f.0) positive r.2)
 
 pub before_zero_again : (text more : List ℕ) → list_all (nat_lt 0) text ≡ true → before_zero (text ++ 0 ∷ more) ≡ Some text
 before_zero_again [] more h = refl
@@ -142,9 +142,10 @@ text_takes bytes text e =
     let t = before_zero_takes (take 32 bytes) text e in
     let len : length (take 32 bytes) ≡ length (text ++ 0 ∷ t.0) = ap length t.1 in
     let near : length text + 1 ≤ 32 = omega (arith, len, length-take 32 bytes, length-append text (0 ∷ t.0)) in
-    let split : text ++ 0 ∷ t.0 ≡ (text ++ 0 ∷ []) ++ t.0 = sym (append_assoc text (0 ∷ []) t.0) in
-    (and_from (nat_le (length text) 31) (list_all (nat_lt 0) text) (le-leb _ _ (omega arith)) t.2,
-    sym (take_near (length text + 1) 32 bytes near) ∙ ap (take (length text + 1)) (t.1 ∙ split) ∙ take_at (text ++ 0 ∷ []) t.0 (length text + 1) (length-append text (0 ∷ [])))
+    let split : text ++ 0 ∷ t.0 ≡ (text ++ 0 ∷ []) ++ t.0 = sym (append_assoc text (0 ∷ []) t.0) in (
+      and_from (nat_le (length text) 31) (list_all (nat_lt 0) text) (le-leb _ _ (omega arith)) t.2,
+      sym (take_near (length text + 1) 32 bytes near) ∙ ap (take (length text + 1)) (t.1 ∙ split) ∙ take_at (text ++ 0 ∷ []) t.0 (length text + 1) (length-append text (0 ∷ [])),
+    )
 
 pub text_again : (bytes text : List ℕ) → is_text text ≡ true → take (length text + 1) bytes ≡ text ++ 0 ∷ [] → text_at bytes ≡ Some text
 unfolding text_at
@@ -157,6 +158,6 @@ text_again bytes text is e =
     let len : length (text ++ 0 ∷ []) ≡ length text + 1 = length-append text (0 ∷ []) in
     let sum : 32 ≡ length (text ++ 0 ∷ []) + (31 - length text) = omega arith in
     let near : take 32 bytes ≡ text ++ 0 ∷ take (31 - length text) rest =
-        ap (λ (x : List ℕ). take 32 x) (sym one_more) ∙ ap (λ (k : ℕ). take k ((text ++ 0 ∷ []) ++ rest)) sum ∙ take-append-add (text ++ 0 ∷ []) rest (31 - length text)
-        ∙ append_assoc text (0 ∷ []) (take (31 - length text) rest) in
+    ap (λ (x : List ℕ). take 32 x) (sym one_more) ∙ ap (λ (k : ℕ). take k ((text ++ 0 ∷ []) ++ rest)) sum ∙ take-append-add (text ++ 0 ∷ []) rest (31 - length text)
+    ∙ append_assoc text (0 ∷ []) (take (31 - length text) rest) in
     ap before_zero near ∙ before_zero_again text (take (31 - length text) rest) p.1

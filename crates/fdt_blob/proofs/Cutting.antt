@@ -41,6 +41,7 @@ reads_item strings bytes item rest e = by_cases (token_at strings bytes) refl e
   where
     some_is : {A : Type 0} (x y : A) → Some x ≡ Some y → x ≡ y
     some_is x y h = cc
+
     by_cases : (o : Option (Token × List ℕ)) → token_at strings bytes ≡ o → as_item o ≡ Some (item, rest) → ReadsItem strings bytes item rest
     by_cases None is h = absurd cc
     by_cases (Some x) is h =
@@ -76,7 +77,7 @@ read_on strings block items rest item behind fits r i =
       tokens = r.tokens ++ i.token ∷ [];
       each = all_append strings r.tokens (i.token ∷ []) r.each (takes.token, tt);
       parts = r.parts ∙ ap (λ (bs : List ℕ). bytes_of_tokens r.tokens ++ bs) takes.parts ∙ sym (append_assoc (bytes_of_tokens r.tokens) (token_bytes i.token) behind)
-        ∙ ap (λ (bs : List ℕ). bs ++ behind) (ap (λ (bs : List ℕ). bytes_of_tokens r.tokens ++ bs) (sym (append-nil (token_bytes i.token))) ∙ sym (flat_map-append token_bytes r.tokens (i.token ∷ [])));
+          ∙ ap (λ (bs : List ℕ). bs ++ behind) (ap (λ (bs : List ℕ). bytes_of_tokens r.tokens ++ bs) (sym (append-nil (token_bytes i.token))) ∙ sym (flat_map-append token_bytes r.tokens (i.token ∷ [])));
       say = items_append r.tokens i.token ∙ ap (λ (is : List Item). is ++ option_to_list (item_of i.token)) r.say ∙ ap (λ (o : Option Item). items ++ option_to_list o) i.says;
     }
 

@@ -11,3 +11,6 @@ pub mod ShapeOf
 pub mod Bytes
 pub mod TokenBytes
 pub mod Cutting
+pub mod UsedNames
+pub mod SpelledTokens
+pub mod SpelledBlob

@@ -63,7 +63,7 @@ pub shape_of_tree : (t : Tree) → IsRoot t → is_shape (tree_items t) ≡ true
 shape_of_tree (node name ps cs) r =
     let n = and_parts (list_all is_property_name (names_of_properties ps)) (have_names cs) r.names in
     and_from (is_empty_name name) (goes_on 1 false (map property_item ps ++ (trees_items cs ++ ends ∷ []))) r.unnamed
-        (hold_on 0 ps (trees_items cs ++ ends ∷ []) n.0 ∙ trees_on cs 0 false [] n.1 r.levels ∙ no_more)
+    (hold_on 0 ps (trees_items cs ++ ends ∷ []) n.0 ∙ trees_on cs 0 false [] n.1 r.levels ∙ no_more)
 
 -- ---- what has the shape is a tree
 
@@ -151,8 +151,8 @@ level_holds name ps cs p none = rw none (ap (λ (is : List Item). begins name �
 level_ends : (l k : Level) → level_items (with_child k (ended l)) ≡ level_items k ++ (level_items l ++ ends ∷ [])
 level_ends l k =
     ap (λ (is : List Item). begins k.name ∷ is)
-        (ap (λ (is : List Item). map property_item k.properties ++ is) (items_with_tree k.children (ended l) ∙ ap (λ (is : List Item). trees_items k.children ++ is) (items_of_end l))
-        ∙ sym (append_assoc (map property_item k.properties) (trees_items k.children) (level_items l ++ ends ∷ [])))
+    (ap (λ (is : List Item). map property_item k.properties ++ is) (items_with_tree k.children (ended l) ∙ ap (λ (is : List Item). trees_items k.children ++ is) (items_of_end l))
+    ∙ sym (append_assoc (map property_item k.properties) (trees_items k.children) (level_items l ++ ends ∷ [])))
 
 opened_holds : (ls : List Level) (l : Level) (p : Property) → l.children ≡ no_trees → opened (with_property l p ∷ ls) ≡ opened (l ∷ ls) ++ property_item p ∷ []
 opened_holds ls l p none =
@@ -212,14 +212,14 @@ completed [] h l ls fits child e = absurd (never (length ls) h e)
 completed (begins name ∷ items) h l ls fits child e =
     let p = begin_fits (length ls) h name items e in
     completes_on (opened (l ∷ ls)) (opened (new_level name ∷ l ∷ ls)) (begins name) items (opened_begins (l ∷ ls) name)
-        (completed items false (new_level name) (l ∷ ls) (record { deep = omega arith; properties = refl; children = refl; levels = refl }, p.1, fits) refl p.2)
+    (completed items false (new_level name) (l ∷ ls) (record { deep = omega arith; properties = refl; children = refl; levels = refl }, p.1, fits) refl p.2)
 completed (holds name value ∷ items) true l ls fits child e = absurd (true≢false (sym e ∙ no_property_behind (length ls) name value items))
 completed (holds name value ∷ items) false l ls fits child e =
     let p = hold_fits (length ls) name value items e in
     let q : Property = record { name = name; value = value } in
     completes_on (opened (l ∷ ls)) (opened (with_property l q ∷ ls)) (holds name value) items (opened_holds ls l q child)
-        (completed items false (with_property l q) ls
-            (record { deep = fits.0.deep; properties = property_with l.properties q fits.0.properties p.0; children = fits.0.children; levels = fits.0.levels }, fits.1, fits.2) child p.1)
+    (completed items false (with_property l q) ls
+    (record { deep = fits.0.deep; properties = property_with l.properties q fits.0.properties p.0; children = fits.0.children; levels = fits.0.levels }, fits.1, fits.2) child p.1)
 completed (ends ∷ items) h l [] fits child e =
     let rest = at_end items (sym (ends_on 0 h items) ∙ e) in
     record {
@@ -235,13 +235,16 @@ completed (ends ∷ items) h l (k ∷ ls) fits child e =
     let less : 16 - suc (suc (length ls)) ≡ 16 - suc (length ls) - 1 = omega arith in
     let levels : within_levels (16 - suc (length ls)) (ended l) ≡ true = and_from (ltb 0 (16 - suc (length ls))) (all_within_levels (16 - suc (length ls) - 1) l.children) (lt-ltb _ _ room) (rw less at inner.levels) in
     completes_on (opened (l ∷ k ∷ ls)) (opened (with_child k (ended l) ∷ ls)) ends items (opened_ends ls l k)
-        (completed items true (with_child k (ended l)) ls
-            (record {
-              deep = outer.0.deep;
-              properties = outer.0.properties;
-              children = names_with_tree k.children (ended l) outer.0.children fits.1 (and_from _ _ inner.properties inner.children);
-              levels = levels_with_tree (16 - suc (length ls)) k.children (ended l) outer.0.levels levels;
-            }, outer.1, outer.2) tt (sym (ends_on (suc (length ls)) h items) ∙ e))
+    (completed items true (with_child k (ended l)) ls (
+      record {
+        deep = outer.0.deep;
+        properties = outer.0.properties;
+        children = names_with_tree k.children (ended l) outer.0.children fits.1 (and_from _ _ inner.properties inner.children);
+        levels = levels_with_tree (16 - suc (length ls)) k.children (ended l) outer.0.levels levels;
+      },
+      outer.1,
+      outer.2,
+    ) tt (sym (ends_on (suc (length ls)) h items) ∙ e))
 
 -- items that have the shape are a tree's
 pub tree_of_shape : (items : List Item) → is_shape items ≡ true → Completes [] items

@@ -49,10 +49,13 @@ begun_takes bytes t rest e =
     let z = bind_some (behind_zeros (padding (length name + 1)) (drop (length name + 1) bytes)) (λ (r : List ℕ). Some (begin_node name, r)) (t, rest) b.2 in
     let x = text_takes bytes name b.1 in
     let zeros = zeros_take (padding (length name + 1)) (drop (length name + 1) bytes) z.0 z.1 in
-    let same : z.0 ≡ rest = rest_is (begin_node name) t z.0 rest z.2 in
-    (name, sym (token_is (begin_node name) t z.0 rest z.2), x.0,
-    sym (take-append-drop (length name + 1) bytes) ∙ ap (λ (y : List ℕ). y ++ drop (length name + 1) bytes) x.1 ∙ ap (λ (y : List ℕ). (name ++ 0 ∷ []) ++ y) (zeros ∙ ap (λ (y : List ℕ). replicate (padding (length name + 1)) 0 ++ y) same)
-    ∙ sym (name_parts name rest))
+    let same : z.0 ≡ rest = rest_is (begin_node name) t z.0 rest z.2 in (
+      name,
+      sym (token_is (begin_node name) t z.0 rest z.2),
+      x.0,
+      sym (take-append-drop (length name + 1) bytes) ∙ ap (λ (y : List ℕ). y ++ drop (length name + 1) bytes) x.1 ∙ ap (λ (y : List ℕ). (name ++ 0 ∷ []) ++ y) (zeros ∙ ap (λ (y : List ℕ). replicate (padding (length name + 1)) 0 ++ y) same)
+          ∙ sym (name_parts name rest),
+    )
 
 begun_again : (name rest : List ℕ) → is_text name ≡ true → begun_at (padded (name ++ 0 ∷ []) ++ rest) ≡ Some (begin_node name, rest)
 unfolding begun_at
@@ -111,11 +114,15 @@ property_takes strings bytes t rest fits e =
     let r4 = b5.0 in
     let z = zeros_take (padding size) r3 r4 b5.1 in
     let behind : r2 ≡ value ++ (replicate (padding size) 0 ++ rest) = p.0 ∙ ap (λ (y : List ℕ). value ++ y) (z ∙ ap (λ (y : List ℕ). replicate (padding size) 0 ++ y) (rest_is (property name place value) t r4 rest b5.2)) in
-    let size_fits : length value < 2 ^ 32 = subst (λ (k : ℕ). k < 2 ^ 32) (sym p.1) n1.1 in
-    (name, place, value, sym (token_is (property name place value) t r4 rest b5.2),
-    record { text = x.0; named = x.1; place_fits = n2.1; value_fits = size_fits },
-    n1.0 ∙ ap (λ (y : List ℕ). word size ++ y) (n2.0 ∙ ap (λ (y : List ℕ). word place ++ y) behind)
-    ∙ ap (λ (k : ℕ). word k ++ (word place ++ (value ++ (replicate (padding k) 0 ++ rest)))) (sym p.1) ∙ sym (property_parts place value rest))
+    let size_fits : length value < 2 ^ 32 = subst (λ (k : ℕ). k < 2 ^ 32) (sym p.1) n1.1 in (
+      name,
+      place,
+      value,
+      sym (token_is (property name place value) t r4 rest b5.2),
+      record { text = x.0; named = x.1; place_fits = n2.1; value_fits = size_fits },
+      n1.0 ∙ ap (λ (y : List ℕ). word size ++ y) (n2.0 ∙ ap (λ (y : List ℕ). word place ++ y) behind)
+          ∙ ap (λ (k : ℕ). word k ++ (word place ++ (value ++ (replicate (padding k) 0 ++ rest)))) (sym p.1) ∙ sym (property_parts place value rest),
+    )
 
 property_again : (strings name : List ℕ) (place : ℕ) (value rest : List ℕ) → IsProperty strings name place value → property_at strings ((word (length value) ++ (word place ++ padded value)) ++ rest) ≡ Some (property name place value, rest)
 unfolding property_at
@@ -149,22 +156,22 @@ by_kind strings bytes r rest k t whole fits e =
     let other2 = cond (eqb k 2) (found end_node r) other3 in
     elim (chosen (eqb k 1) (begun_at r) other2 (found t rest) e) [
       | inl p ↦
-        let w = begun_takes r t rest p.1 in
-        subst (λ (u : Token). Takes strings bytes u rest) (sym w.1)
-            (finished strings bytes r (padded (w.0 ++ 0 ∷ [])) rest 1 (begin_node w.0) (whole ∙ ap (λ (j : ℕ). word j ++ r) (eqb-true k 1 p.0)) fits w.3 refl w.2)
+          let w = begun_takes r t rest p.1 in
+          subst (λ (u : Token). Takes strings bytes u rest) (sym w.1)
+          (finished strings bytes r (padded (w.0 ++ 0 ∷ [])) rest 1 (begin_node w.0) (whole ∙ ap (λ (j : ℕ). word j ++ r) (eqb-true k 1 p.0)) fits w.3 refl w.2)
       | inr p ↦ elim (chosen (eqb k 2) (found end_node r) other3 (found t rest) p.1) [
         | inl q ↦
-          subst (λ (u : Token). Takes strings bytes u rest) (token_is end_node t r rest q.1)
-              (finished strings bytes r [] rest 2 end_node (whole ∙ ap (λ (j : ℕ). word j ++ r) (eqb-true k 2 q.0)) fits (rest_is end_node t r rest q.1) refl tt)
+            subst (λ (u : Token). Takes strings bytes u rest) (token_is end_node t r rest q.1)
+            (finished strings bytes r [] rest 2 end_node (whole ∙ ap (λ (j : ℕ). word j ++ r) (eqb-true k 2 q.0)) fits (rest_is end_node t r rest q.1) refl tt)
         | inr q ↦ elim (chosen (eqb k 3) (property_at strings r) other4 (found t rest) q.1) [
           | inl v ↦
-            let w = property_takes strings r t rest fits v.1 in
-            subst (λ (u : Token). Takes strings bytes u rest) (sym w.3)
-                (finished strings bytes r (word (length w.2) ++ (word w.1 ++ padded w.2)) rest 3 (property w.0 w.1 w.2) (whole ∙ ap (λ (j : ℕ). word j ++ r) (eqb-true k 3 v.0)) fits w.5 refl w.4)
+              let w = property_takes strings r t rest fits v.1 in
+              subst (λ (u : Token). Takes strings bytes u rest) (sym w.3)
+              (finished strings bytes r (word (length w.2) ++ (word w.1 ++ padded w.2)) rest 3 (property w.0 w.1 w.2) (whole ∙ ap (λ (j : ℕ). word j ++ r) (eqb-true k 3 v.0)) fits w.5 refl w.4)
           | inr v ↦ elim (chosen (eqb k 4) (found nop r) None (found t rest) v.1) [
             | inl w ↦
-              subst (λ (u : Token). Takes strings bytes u rest) (token_is nop t r rest w.1)
-                  (finished strings bytes r [] rest 4 nop (whole ∙ ap (λ (j : ℕ). word j ++ r) (eqb-true k 4 w.0)) fits (rest_is nop t r rest w.1) refl tt)
+                subst (λ (u : Token). Takes strings bytes u rest) (token_is nop t r rest w.1)
+                (finished strings bytes r [] rest 4 nop (whole ∙ ap (λ (j : ℕ). word j ++ r) (eqb-true k 4 w.0)) fits (rest_is nop t r rest w.1) refl tt)
             | inr w ↦ absurd (none_found t rest w.1)
           ]
         ]

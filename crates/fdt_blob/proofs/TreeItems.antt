@@ -15,7 +15,7 @@ body ps cs rest = map property_item ps ++ (trees_items cs ++ (ends ∷ rest))
 pub tree_then : (name : List ℕ) (ps : List Property) (cs : Trees) (rest : List Item) → tree_items (node name ps cs) ++ rest ≡ begins name ∷ body ps cs rest
 tree_then name ps cs rest =
     ap (λ (is : List Item). begins name ∷ is)
-        (append_assoc (map property_item ps) (trees_items cs ++ ends ∷ []) rest ∙ ap (λ (is : List Item). map property_item ps ++ is) (append_assoc (trees_items cs) (ends ∷ []) rest))
+    (append_assoc (map property_item ps) (trees_items cs ++ ends ∷ []) rest ∙ ap (λ (is : List Item). map property_item ps ++ is) (append_assoc (trees_items cs) (ends ∷ []) rest))
 
 pub trees_then : (t : Tree) (ts : Trees) (rest : List Item) → trees_items (tree t ts) ++ rest ≡ tree_items t ++ (trees_items ts ++ rest)
 trees_then t ts rest = append_assoc (tree_items t) (trees_items ts) rest

@@ -4,12 +4,13 @@
 mod blocks;
 mod doubles;
 mod items;
+pub mod laws;
 mod names;
 mod profile;
 mod reading;
 mod shape;
-mod structure;
 mod strings;
+mod structure;
 pub mod tree;
 mod walk;
 pub mod writer;

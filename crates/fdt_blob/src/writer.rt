@@ -6,6 +6,7 @@ ghost use Rattle.fdt_blob.specs.Tokens as tokens;
 ghost use Rattle.fdt_blob.specs.Tokens.{token_bytes, tree_items, trees_items};
 ghost use Rattle.fdt_blob.specs.Trees.{is_valid};
 ghost use Rattle.fdt_blob.specs.Spelling.{spelling, assembled, header_of, structure_of, strings_of, token_of};
+ghost use Rattle.fdt_blob.specs.Blob.{Spells};
 ghost use Rattle.fdt_blob.specs.Writing.{Puts, Makes, parts_of, blob_of, texts, trees_of, items_bytes};
 ghost use Rattle.fdt_blob.specs.declared.writer.WriteError.TheVariants.{Memory};
 
@@ -66,6 +67,7 @@ impl<T: Drop> From<AllocFailed<T>> for WriteError {
 pub fn write(alloc: Global, root: &Node) -> Result<Vec<u8>, WriteError>
     requires valid { IsTrue (is_valid (tree_view root.now)) }
     ensures spelled { IfOk result (λ blob. blob.items ≡ spelling (tree_view root.now)) }
+    ensures spells { IfOk result (λ blob. Spells blob.items (tree_view root.now)) }
     ensures within { OnOk result (length (spelling (tree_view root.now)) ≤ BLOB_BYTES) }
     ensures too_big { result ≡ Err WriteError.TooBig → BLOB_BYTES < length (spelling (tree_view root.now)) }
 {
