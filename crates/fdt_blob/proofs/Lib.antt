@@ -14,3 +14,6 @@ pub mod Cutting
 pub mod UsedNames
 pub mod SpelledTokens
 pub mod SpelledBlob
+pub mod PlaceItems
+pub mod Opened
+pub mod Placed

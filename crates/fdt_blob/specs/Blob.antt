@@ -131,3 +131,9 @@ abbrev pub BreaksAt : List ℕ → FdtPlace → Type 0
 BreaksAt blob Header = ¬ (HeaderRules blob)
 BreaksAt blob Reservations = HeaderRules blob × (¬ (ReservationRules blob))
 BreaksAt blob Structure = HeaderRules blob × ReservationRules blob × ((t : Tree) → ¬ (StructureCarries blob t))
+
+-- the first part whose rules break is one of the first two
+abbrev pub BreaksEarly : List ℕ → FdtPlace → Type 0
+BreaksEarly blob Header = BreaksAt blob Header
+BreaksEarly blob Reservations = BreaksAt blob Reservations
+BreaksEarly blob Structure = ⊥

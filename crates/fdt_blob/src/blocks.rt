@@ -1,10 +1,12 @@
 //! The header of a blob and the blocks that it names (5.2, 5.3).
 
-ghost use Rattle.std.specs.Prelude.{◌≡◌, ◌+◌, ◌-◌, ◌*◌, ◌/◌, ◌≤◌, ◌<◌, ◌^◌, nat_eq, take, drop, length, IsTrue, false};
+ghost use Rattle.std.specs.Prelude.{◌≡◌, ◌+◌, ◌-◌, ◌*◌, ◌/◌, ◌≤◌, ◌<◌, ◌^◌, nat_eq, take, drop, length, IsTrue, MatchOption, false};
 ghost use Rattle.std.specs.List.{list_all};
 ghost use Rattle.std.specs.Option.{option_map, option_map_or};
-ghost use Rattle.fdt_blob.specs.Blob.{word_at as word_spec, has_header as header_spec, has_blocks as blocks_spec, structure_block as structure_spec, strings_block as strings_spec, first_pair as first_pair_spec, header_block, apart, is_placed as placed_spec, block_end, reservations_size as size_spec, reservations_block as reservations_spec, is_apart_from_blocks, bytes_of, total_of, is_ending_pair as ending_spec};
+ghost use Rattle.fdt_blob.specs.Blob.{word_at as word_spec, has_header as header_spec, has_blocks as blocks_spec, structure_block as structure_spec, strings_block as strings_spec, first_pair as first_pair_spec, header_block, apart, is_placed as placed_spec, block_end, reservations_size as size_spec, reservations_block as reservations_spec, is_apart_from_blocks, bytes_of, total_of, HeaderRules, ReservationRules, BreaksEarly};
 ghost use Rattle.fdt_blob.specs.Blocks.{block_view};
+
+use crate::tree::FdtPlace;
 
 /// The first word of a blob.
 const MAGIC: u32 = 0xd00d_feed;
@@ -23,11 +25,11 @@ const PAIR_BYTES: u32 = 16;
 
 /// A part of a blob.
 #[derive(Clone, Copy)]
-pub(crate) struct Block {
+struct Block {
     /// Where it begins.
-    pub at: u32,
+    at: u32,
     /// How many bytes it has.
-    pub size: u32,
+    size: u32,
 }
 
 /// The number that the four bytes from a place on spell, the highest byte first.
@@ -63,7 +65,7 @@ fn is_placed(total: u32, alignment: u32, block: Block) -> bool
 }
 
 /// The structure block.
-pub(crate) fn structure_block(bytes: &[u8]) -> Block
+fn structure_block(bytes: &[u8]) -> Block
     requires { 40 ≤ length bytes.now }
     ensures { block_view result ≡ structure_spec bytes.now }
 {
@@ -74,7 +76,7 @@ pub(crate) fn structure_block(bytes: &[u8]) -> Block
 }
 
 /// The strings block.
-pub(crate) fn strings_block(bytes: &[u8]) -> Block
+fn strings_block(bytes: &[u8]) -> Block
     requires { 40 ≤ length bytes.now }
     ensures { block_view result ≡ strings_spec bytes.now }
 {
@@ -104,7 +106,7 @@ fn total_of_blob(bytes: &[u8]) -> u32
 }
 
 /// Whether the header keeps its rules (5.2).
-pub(crate) fn has_header(bytes: &[u8]) -> bool
+fn has_header(bytes: &[u8]) -> bool
     ensures { result ≡ header_spec bytes.now }
 {
     bytes.len() >= HEADER_BYTES as usize
@@ -116,7 +118,7 @@ pub(crate) fn has_header(bytes: &[u8]) -> bool
 }
 
 /// Whether the blocks that the header names are aligned, within the total and apart (5.2).
-pub(crate) fn has_blocks(bytes: &[u8]) -> bool
+fn has_blocks(bytes: &[u8]) -> bool
     requires { 40 ≤ length bytes.now }
     ensures { result ≡ blocks_spec bytes.now }
 {
@@ -176,7 +178,7 @@ fn reservations_block(bytes: &[u8]) -> Option<Block>
 }
 
 /// Whether the reservation block ends within the total and overlaps no other block (5.3).
-pub(crate) fn has_reservations(bytes: &[u8]) -> bool
+fn has_reservations(bytes: &[u8]) -> bool
     requires header { IsTrue (header_spec bytes.now) }
     requires blocks { IsTrue (blocks_spec bytes.now) }
     ensures { result ≡ option_map_or (is_apart_from_blocks bytes.now) (reservations_spec bytes.now) false }
@@ -196,10 +198,42 @@ pub(crate) fn has_reservations(bytes: &[u8]) -> bool
 }
 
 /// The bytes of a block.
-pub(crate) fn bytes_of_block(block: Block, bytes: &[u8]) -> &[u8]
+fn bytes_of_block(block: Block, bytes: &[u8]) -> &[u8]
     requires { block_end (block_view block) ≤ length bytes.now }
     ensures { result.now ≡ bytes_of (block_view block) bytes.now }
 {
     let start = block.at as usize;
     &bytes[start..start + block.size as usize]
+}
+
+/// The bytes of the structure block.
+#[tactic(auto, using(crate::proofs::Placed::structure_within))]
+pub(crate) fn structure_of(bytes: &[u8]) -> &[u8]
+    requires { HeaderRules bytes.now }
+    ensures bytes { result.now ≡ bytes_of (structure_spec bytes.now) bytes.now }
+    ensures few { length result.now < 2 ^ 32 }
+{
+    bytes_of_block(structure_block(bytes), bytes)
+}
+
+/// The bytes of the strings block.
+#[tactic(auto, using(crate::proofs::Placed::strings_within))]
+pub(crate) fn strings_of(bytes: &[u8]) -> &[u8]
+    requires { HeaderRules bytes.now }
+    ensures { result.now ≡ bytes_of (strings_spec bytes.now) bytes.now }
+{
+    bytes_of_block(strings_block(bytes), bytes)
+}
+
+/// The first place before the structure whose rules break.
+pub(crate) fn first_broken(bytes: &[u8]) -> Option<FdtPlace>
+    ensures { MatchOption result (HeaderRules bytes.now × ReservationRules bytes.now) (BreaksEarly bytes.now) }
+{
+    if !has_header(bytes) || !has_blocks(bytes) {
+        return Some(FdtPlace::Header);
+    }
+    if !has_reservations(bytes) {
+        return Some(FdtPlace::Reservations);
+    }
+    None
 }

@@ -6,7 +6,9 @@ mod doubles;
 mod items;
 pub mod laws;
 mod names;
+mod places;
 mod profile;
+pub mod reader;
 mod reading;
 mod shape;
 mod strings;
@@ -16,5 +18,6 @@ mod walk;
 pub mod writer;
 
 pub use profile::valid;
+pub use reader::{OpenError, Reader};
 pub use tree::{FdtPlace, Node, NodeAt, Prop};
 pub use writer::{WriteError, write};
