@@ -17,3 +17,4 @@ pub mod SpelledBlob
 pub mod PlaceItems
 pub mod Opened
 pub mod Placed
+pub mod OneTree
