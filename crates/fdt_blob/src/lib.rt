@@ -21,3 +21,6 @@ pub use profile::valid;
 pub use reader::{OpenError, Reader};
 pub use tree::{FdtPlace, Node, NodeAt, Prop};
 pub use writer::{WriteError, write};
+
+#[cfg(test)]
+mod tests;
