@@ -1,8 +1,10 @@
 //! `fdt_tool`: writes trees as devicetree blobs, and looks into blobs.
 #![tactic(auto)]
 
+mod look;
 mod samples;
 
+use crate::look::show;
 use crate::samples::sample;
 use fdt_blob::{WriteError, valid, write};
 use std::io::Write;
@@ -11,7 +13,7 @@ use std::rt::Files;
 use std::{env, fs, io};
 
 /// What the tool came to: its exit status.
-enum Outcome {
+pub enum Outcome {
     Done,
     Refused,
     Usage,
@@ -53,6 +55,10 @@ fn run<R: Files + Print + AllocGlobal>(rt: &R, words: &[String]) -> io::Result<O
         [verb, name] if verb.as_str() == "write" => write_sample(rt, name.as_str(), None),
         [verb, name, file] if verb.as_str() == "write" => {
             write_sample(rt, name.as_str(), Some(file.as_str()))
+        }
+        [verb, file, paths @ ..] if verb.as_str() == "props" => {
+            let bytes = fs::read(rt, file.as_str())?;
+            show(rt, &bytes, paths)
         }
         _ => Ok(Outcome::Usage),
     }
