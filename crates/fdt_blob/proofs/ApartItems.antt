@@ -1,9 +1,9 @@
 -- The names among a tree's items are apart where the tree has no double.
-use Rattle.std.proofs.Common.{◌≡◌, ℕ, Bool, true, false, List, [], ◌∷◌, ◌++◌, map, refl, sym, ap, ◌∙◌}
+use Rattle.std.proofs.Common.{◌≡◌, ℕ, Bool, true, false, List, [], ◌∷◌, ◌++◌, map, refl, ap, ◌∙◌}
 use Rattle.std.specs.Prelude.{◌&&◌}
 use Rattle.fdt_blob.specs.Trees.{Property, Tree, Trees, node, no_trees, tree, all_apart, names_of, names_of_properties, has_no_double, have_no_double}
-use Rattle.fdt_blob.specs.Tokens.{Item, begins, holds, ends, property_item, tree_items, trees_items}
-use Rattle.fdt_blob.specs.Shape.{property_names, child_names, has_names_apart}
+use Rattle.fdt_blob.specs.Tokens.{Item, begins, ends, property_item, tree_items, trees_items}
+use Rattle.fdt_blob.specs.Shape.{has_names_apart}
 use Rattle.fdt_blob.proofs.TreeItems.{body, tree_then, trees_then, property_names-body, child_names-body}
 
 -- three tests, grouped in another way

@@ -1,7 +1,7 @@
 -- A structure block is cut into tokens in one way.
-use Rattle.std.proofs.Common.{◌≡◌, ℕ, zero, suc, ◌+◌, ◌*◌, ◌<◌, ◌≤◌, Bool, true, false, List, [], ◌∷◌, ◌++◌, length, get_or, Option, Some, None, refl, sym, ap, subst, ◌∙◌, append_assoc, arith}
+use Rattle.std.proofs.Common.{◌≡◌, ℕ, ◌+◌, ◌≤◌, true, false, List, [], ◌∷◌, ◌++◌, length, Option, Some, None, refl, sym, ap, subst, ◌∙◌, append_assoc, arith}
 use Rattle.std.specs.Option.{option_to_list}
-use Rattle.std.specs.List.{flat_map, filter_map, cons_option, AllByRecursion}
+use Rattle.std.specs.List.{flat_map, cons_option, AllByRecursion}
 use Rattle.std.proofs.lemmas.List.{length-append, append-nil}
 use Rattle.std.proofs.lemmas.Grind.{flat_map-append}
 use Rattle.std.proofs.lemmas.List.Elements.{filter_map-append}
@@ -13,7 +13,7 @@ use Rattle.fdt_blob.specs.Blob.{StructureSpells}
 use Rattle.fdt_blob.specs.Reading.{token_at, of_kind, as_item}
 use Rattle.fdt_blob.specs.Cut.{HasRead}
 use Rattle.fdt_blob.proofs.Bytes.{IsBytes, IsBytes-behind}
-use Rattle.fdt_blob.proofs.TokenBytes.{Takes, token_takes, token_again, found, token_is, rest_is, none_found}
+use Rattle.fdt_blob.proofs.TokenBytes.{token_takes, token_again, found, token_is, rest_is, none_found}
 
 abbrev bytes_of_tokens : List Token → List ℕ
 bytes_of_tokens ts = flat_map token_bytes ts

@@ -3,10 +3,10 @@ use Rattle.std.proofs.Common.{◌≡◌, ℕ, ◌+◌, ◌<◌, List, [], ◌∷
 use Rattle.std.proofs.lemmas.List.{drop_more}
 use Rattle.fdt_blob.specs.declared.tree.Prop.{Prop}
 use Rattle.fdt_blob.specs.declared.tree.Node.{Node, out-Node}
-use Rattle.fdt_blob.specs.Trees.{same_name, Property}
+use Rattle.fdt_blob.specs.Trees.{same_name}
 use Rattle.fdt_blob.specs.Nodes.{property_view, tree_view}
 use Rattle.fdt_blob.specs.Tokens.{Item, begins, holds, ends, property_item, tree_items, trees_items}
-use Rattle.fdt_blob.specs.Spelling.{with_name, names_from, strings_of, place_in}
+use Rattle.fdt_blob.specs.Spelling.{with_name, strings_of, place_in}
 use Rattle.fdt_blob.specs.Writing.{texts, trees_of, names_after}
 use Rattle.fdt_blob.proofs.NodeLemmas.{tree_view_is}
 

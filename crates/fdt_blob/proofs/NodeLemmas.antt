@@ -1,10 +1,10 @@
 -- The tree of a node by its fields.
 use Rattle.std.proofs.lemmas.List.{drop_more}
 use Rattle.std.specs.List.{list_all}
-use Rattle.std.proofs.Common.{◌≡◌, ℕ, ◌+◌, ◌-◌, Bool, true, false, ◌&&◌, nat_lt, ◌<◌, List, [], ◌∷◌, length, map, drop, get_or, refl, ap, sym, ◌∙◌}
+use Rattle.std.proofs.Common.{◌≡◌, ℕ, ◌+◌, ◌-◌, Bool, true, false, ◌&&◌, nat_lt, ◌<◌, List, ◌∷◌, length, map, drop, get_or, refl, ap, sym, ◌∙◌}
 use Rattle.fdt_blob.specs.declared.tree.Prop.{Prop}
 use Rattle.fdt_blob.specs.declared.tree.Node.{Node, Node', Row_of-Node, end_of-Node, more_of-Node, items-the_row-Node, items_shown-the_row-Node-0, out-Node}
-use Rattle.fdt_blob.specs.Trees.{Tree, Trees, node, no_trees, tree, name_of, names_of, names_of_properties, is_valid, is_empty_name, most_levels, is_node_name, is_property_name, has_names, have_names, has_no_double, have_no_double, all_apart, within_levels, all_within_levels}
+use Rattle.fdt_blob.specs.Trees.{node, tree, name_of, names_of, names_of_properties, is_valid, is_empty_name, most_levels, is_node_name, is_property_name, has_names, have_names, has_no_double, have_no_double, all_apart, within_levels, all_within_levels}
 use Rattle.fdt_blob.specs.Nodes.{property_view, tree_view, trees_view}
 use Rattle.fdt_blob.specs.Writing.{trees_of}
 

@@ -1,11 +1,11 @@
 -- Items are those of one tree, and bytes spell one tree.
-use Rattle.std.proofs.Common.{◌≡◌, ℕ, List, [], ◌∷◌, ◌++◌, map, drop, refl, sym, ap, subst, ◌∙◌}
+use Rattle.std.proofs.Common.{◌≡◌, ℕ, List, [], ◌∷◌, ◌++◌, refl, sym, ap, ◌∙◌}
 use Rattle.std.proofs.lemmas.List.{append-nil}
 use Rattle.fdt_blob.specs.declared.tree.FdtPlace.{FdtPlace}
 use Rattle.fdt_blob.specs.declared.tree.FdtPlace.TheVariants.{Header, Reservations, Structure}
 use Rattle.fdt_blob.specs.Trees.{Property, Tree, Trees, node, no_trees, tree}
 use Rattle.fdt_blob.specs.Tokens.{Item, begins, holds, ends, property_item, tree_items, trees_items, items_of}
-use Rattle.fdt_blob.specs.Blob.{StructureSpells, Spells, BreaksAt, bytes_of, strings_block, structure_block}
+use Rattle.fdt_blob.specs.Blob.{Spells, BreaksAt, bytes_of, strings_block}
 use Rattle.fdt_blob.specs.Places.{IsTreeAt}
 use Rattle.fdt_blob.proofs.TreeItems.{body, tree_then, trees_then}
 use Rattle.fdt_blob.proofs.Cutting.{same_tokens}

@@ -1,5 +1,5 @@
 -- A structure block spells a tree exactly where its items are a tree's and have no double.
-use Rattle.std.proofs.Common.{◌≡◌, ℕ, Bool, true, false, List, [], ◌∷◌, ◌++◌, refl, sym, ap, ◌∙◌, inl, inr}
+use Rattle.std.proofs.Common.{◌≡◌, ℕ, true, false, List, [], refl, sym, ap, ◌∙◌, inl, inr}
 use Rattle.std.specs.Prelude.{◌&&◌}
 use Rattle.std.proofs.lemmas.List.{append-nil}
 use Rattle.std.proofs.lemmas.Bool.{and_parts, and_from, and_cases, true≢false}
@@ -8,7 +8,7 @@ use Rattle.fdt_blob.specs.Tokens.{Item, tree_items, end_bytes}
 use Rattle.fdt_blob.specs.Blob.{StructureSpells}
 use Rattle.fdt_blob.specs.Shape.{is_shape, has_names_apart}
 use Rattle.fdt_blob.specs.Cut.{HasRead}
-use Rattle.fdt_blob.specs.Places.{Carries, SpellsTree}
+use Rattle.fdt_blob.specs.Places.{SpellsTree}
 use Rattle.fdt_blob.proofs.ShapeOf.{IsRoot, shape_of_tree, tree_of_shape}
 use Rattle.fdt_blob.proofs.ApartItems.{apart_tree}
 use Rattle.fdt_blob.proofs.Cutting.{items_of_block, spells_items}

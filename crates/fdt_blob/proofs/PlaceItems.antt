@@ -1,13 +1,12 @@
 -- A node's items lead to its properties and its children.
-use Rattle.std.proofs.Common.{◌≡◌, ℕ, zero, suc, ◌+◌, ◌-◌, ◌<◌, ◌≤◌, Bool, true, false, cond, eqb, List, [], ◌∷◌, ◌++◌, length, map, drop, Option, Some, None, refl, sym, ap, subst, ◌∙◌, append_assoc, arith, inl, inr}
-use Rattle.std.specs.Prelude.{◌&&◌}
+use Rattle.std.proofs.Common.{◌≡◌, ℕ, suc, ◌+◌, ◌≤◌, Bool, true, false, cond, List, [], ◌∷◌, ◌++◌, length, map, drop, Option, Some, None, refl, sym, ap, subst, ◌∙◌, arith, inl, inr}
 use Rattle.std.specs.Option.{option_map}
 use Rattle.std.proofs.lemmas.List.{length-append, length-map, drop-drop, drop_at, drop-map, length-drop}
 use Rattle.std.proofs.lemmas.Bool.{cases_Bool}
 use Rattle.fdt_blob.specs.declared.items.Item.{Item as Kept}
 use Rattle.fdt_blob.specs.Items.{item_view, item_views}
-use Rattle.fdt_blob.specs.Trees.{Property, Tree, Trees, node, no_trees, tree, name_of, properties_of, children_of, names_of, names_of_properties, count_of, value_in, tree_in, same_name}
-use Rattle.fdt_blob.specs.Tokens.{Item, begins, holds, ends, property_item, tree_items, trees_items}
+use Rattle.fdt_blob.specs.Trees.{Property, Tree, Trees, node, no_trees, tree, properties_of, children_of, names_of, count_of, value_in, tree_in, same_name}
+use Rattle.fdt_blob.specs.Tokens.{Item, begins, ends, property_item, tree_items, trees_items}
 use Rattle.fdt_blob.specs.Shape.{property_names, child_names}
 use Rattle.fdt_blob.specs.Places.{IsTreeAt, IsNodeAt, IsChildAt, value_from, child_from}
 use Rattle.fdt_blob.proofs.TreeItems.{body, tree_then, trees_then, length-tree_items, not_zero, one_less, property_names-body, child_names-body, value_from-body}

@@ -1,5 +1,5 @@
 -- The blocks that keep the header's rules end within the bytes.
-use Rattle.std.proofs.Common.{◌≡◌, ℕ, ◌+◌, ◌<◌, ◌≤◌, Bool, true, List, [], ◌∷◌, length, eqb, arith}
+use Rattle.std.proofs.Common.{◌≡◌, ℕ, ◌≤◌, Bool, true, List, [], ◌∷◌, length, arith}
 use Rattle.std.specs.Prelude.{◌&&◌, ◌==◌, ◌%◌, nat_le}
 use Rattle.std.proofs.lemmas.Bool.{and_parts, leb-true}
 use Rattle.fdt_blob.specs.Blob.{HeaderRules, Block, block_end, first_pair, structure_block, strings_block, header_block, is_placed, total_of, magic_of, version_of, compatible_of, all_blocks_apart}

@@ -1,10 +1,10 @@
 -- Items have a tree's shape exactly where they are a tree's.
-use Rattle.std.proofs.Common.{◌≡◌, ℕ, zero, suc, ◌+◌, ◌-◌, ◌<◌, ◌≤◌, Bool, true, false, cond, eqb, ltb, List, [], ◌∷◌, ◌++◌, length, map, refl, sym, ap, subst, ◌∙◌, append_assoc, arith, add-one}
+use Rattle.std.proofs.Common.{◌≡◌, ℕ, suc, ◌+◌, ◌-◌, ◌<◌, ◌≤◌, Bool, true, false, eqb, ltb, List, [], ◌∷◌, ◌++◌, length, map, refl, sym, ap, ◌∙◌, append_assoc, arith, add-one}
 use Rattle.std.specs.Prelude.{◌&&◌, not, MatchBool}
 use Rattle.std.specs.List.{list_all}
 use Rattle.std.proofs.lemmas.List.{append-nil, map-append}
-use Rattle.std.proofs.lemmas.Bool.{and_parts, and_from, lt-ltb, ltb-true, true≢false, not-true, eqb-true, eq-eqb}
-use Rattle.fdt_blob.specs.Trees.{Property, Tree, Trees, node, no_trees, tree, name_of, names_of_properties, is_node_name, is_property_name, is_empty_name, has_names, have_names, within_levels, all_within_levels, most_levels}
+use Rattle.std.proofs.lemmas.Bool.{and_parts, and_from, lt-ltb, ltb-true, true≢false}
+use Rattle.fdt_blob.specs.Trees.{Property, Tree, Trees, node, no_trees, tree, name_of, names_of_properties, is_node_name, is_property_name, is_empty_name, has_names, have_names, within_levels, all_within_levels}
 use Rattle.fdt_blob.specs.Tokens.{Item, begins, holds, ends, property_item, tree_items, trees_items}
 use Rattle.fdt_blob.specs.Shape.{goes_on, is_shape}
 use Rattle.fdt_blob.proofs.TreeItems.{body, tree_then, trees_then, not_zero, one_less}

@@ -1,5 +1,5 @@
 -- Items behind a tree.
-use Rattle.std.proofs.Common.{◌≡◌, ℕ, zero, suc, ◌<◌, Bool, true, false, List, [], ◌∷◌, length, drop, refl, arith}
+use Rattle.std.proofs.Common.{◌≡◌, ℕ, zero, suc, ◌<◌, Bool, false, List, [], ◌∷◌, length, drop, refl, arith}
 use Rattle.fdt_blob.specs.declared.items.Item.{Item as Kept}
 use Rattle.fdt_blob.specs.Items.{item_view, item_views}
 use Rattle.fdt_blob.specs.Tokens.{Item, begins, holds, ends}

@@ -1,15 +1,14 @@
 -- The one spelling of a valid tree spells it: header and blocks keep their rules.
-use Rattle.std.proofs.Common.{◌≡◌, ℕ, zero, suc, ◌+◌, ◌-◌, ◌*◌, ◌/◌, ◌%◌, ◌^◌, ◌<◌, ◌≤◌, Bool, true, false, Option, Some, None, Result, Ok, Err, IfOk, Vec, Global, List, [], ◌∷◌, ◌++◌, length, take, drop, replicate, refl, sym, ap, subst, ◌∙◌, arith, length-append, append_assoc}
-use Rattle.std.specs.Prelude.{◌&&◌, ◌||◌, nat_eq, nat_lt, nat_le, IsTrue}
+use Rattle.std.proofs.Common.{◌≡◌, ℕ, zero, suc, ◌+◌, ◌-◌, ◌/◌, ◌%◌, ◌^◌, ◌<◌, ◌≤◌, Bool, true, false, Some, Result, Ok, Err, IfOk, Vec, Global, List, [], ◌∷◌, ◌++◌, length, take, drop, replicate, refl, sym, ap, subst, ◌∙◌, arith, length-append, append_assoc}
+use Rattle.std.specs.Prelude.{◌&&◌, ◌||◌, nat_eq, nat_le}
 use Rattle.std.specs.Option.{option_map, option_map_or}
-use Rattle.std.specs.Int.{w32, from_be_bytes}
 use Rattle.std.specs.List.{list_all}
 use Rattle.std.proofs.lemmas.Bool.{and_from, le-leb, eq-eqb}
 use Rattle.std.proofs.lemmas.List.{take_at, drop_at, drop-drop, take_all}
 use Rattle.std.proofs.lemmas.Nat.{from_be_bytes-to_be_bytes_4}
 use Rattle.std.proofs.Math.Nat.{mod-one}
 use Rattle.fdt_blob.specs.Trees.{Tree, is_valid}
-use Rattle.fdt_blob.specs.Blob.{Block, block_end, header_block, structure_block, strings_block, first_pair, bytes_of, apart, all_blocks_apart, is_placed, has_header, has_blocks, HeaderRules, is_ending_pair, reservations_size, reservations_block, is_apart_from_blocks, ReservationRules, StructureSpells, StructureCarries, Spells, word_at, magic_of, total_of, version_of, compatible_of}
+use Rattle.fdt_blob.specs.Blob.{Block, block_end, header_block, structure_block, strings_block, bytes_of, apart, all_blocks_apart, is_placed, has_header, has_blocks, is_ending_pair, reservations_size, reservations_block, is_apart_from_blocks, ReservationRules, StructureSpells, Spells, word_at, total_of}
 use Rattle.fdt_blob.specs.Spelling.{header_of, assembled, spelling, structure_of, strings_of, used_names}
 use Rattle.fdt_blob.specs.Writing.{Makes, blob_of}
 use Rattle.fdt_blob.specs.declared.writer.WriteError.{WriteError}

@@ -1,12 +1,12 @@
 -- The tokens of the one spelling: each can stand in the blob, and they are the tree's.
-use Rattle.std.proofs.Common.{◌≡◌, ℕ, zero, suc, ◌+◌, ◌-◌, ◌^◌, ◌<◌, ◌≤◌, Bool, true, false, List, [], ◌∷◌, ◌++◌, length, map, replicate, refl, sym, ap, subst, ◌∙◌, arith, length-append, append_assoc}
-use Rattle.std.specs.Prelude.{not, ◌&&◌, ◌||◌, nat_eq, nat_lt, nat_le, IsTrue}
-use Rattle.std.specs.List.{list_all, flat_map, filter_map, AllByRecursion}
-use Rattle.std.proofs.lemmas.Bool.{and_parts, and_from, lt-ltb, eqb-true, le-leb, leb-true, true≢false}
+use Rattle.std.proofs.Common.{◌≡◌, ℕ, zero, suc, ◌+◌, ◌-◌, ◌^◌, ◌<◌, ◌≤◌, Bool, true, false, List, [], ◌∷◌, ◌++◌, length, map, replicate, refl, sym, ap, arith, length-append}
+use Rattle.std.specs.Prelude.{not, ◌&&◌, ◌||◌, nat_eq, nat_lt, nat_le}
+use Rattle.std.specs.List.{list_all, flat_map, AllByRecursion}
+use Rattle.std.proofs.lemmas.Bool.{and_parts, and_from, lt-ltb, eqb-true, true≢false}
 use Rattle.fdt_blob.specs.Trees.{Tree, is_valid, is_node_name, is_property_name, is_name_byte, is_property_byte, is_empty_name, name_of, has_names, has_no_double, within_levels, most_levels}
-use Rattle.fdt_blob.specs.Tokens.{Token, Item, begins, holds, ends, begin_node, property, end_node, IsToken, IsProperty, is_text, token_bytes, item_of, items_of, tree_items, padding, end_bytes}
+use Rattle.fdt_blob.specs.Tokens.{Item, begins, holds, ends, IsToken, is_text, token_bytes, items_of, tree_items, padding, end_bytes}
 use Rattle.fdt_blob.specs.Shape.{goes_on, is_shape}
-use Rattle.fdt_blob.specs.Spelling.{token_of, used_names, strings_of, structure_of, place_in}
+use Rattle.fdt_blob.specs.Spelling.{token_of, used_names, strings_of, structure_of}
 use Rattle.fdt_blob.specs.Blob.{StructureSpells}
 use Rattle.fdt_blob.proofs.ShapeOf.{IsRoot, shape_of_tree}
 use Rattle.fdt_blob.proofs.UsedNames.{IsUsed, all_used, name_stands, place_within}

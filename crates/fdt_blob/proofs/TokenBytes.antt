@@ -1,9 +1,8 @@
 -- The token that is read at the front stands there, and a token that stands there is read.
-use Rattle.std.proofs.Common.{◌≡◌, ℕ, zero, suc, ◌+◌, ◌-◌, ◌^◌, ◌<◌, ◌≤◌, Bool, true, false, cond, ltb, eqb, List, [], ◌∷◌, ◌++◌, length, take, drop, replicate, Option, Some, None, refl, sym, ap, subst, ◌∙◌, append_assoc, arith, inl, inr, ◌⊎◌, lit<}
-use Rattle.std.specs.List.{list_all}
+use Rattle.std.proofs.Common.{◌≡◌, ℕ, ◌+◌, ◌^◌, ◌<◌, Bool, true, false, cond, eqb, List, [], ◌∷◌, ◌++◌, length, drop, replicate, Option, Some, None, refl, sym, ap, subst, ◌∙◌, append_assoc, inl, inr, ◌⊎◌, lit<}
 use Rattle.std.proofs.lemmas.Bool.{eqb-true}
 use Rattle.std.proofs.lemmas.List.{take_at, drop_at, take-append-drop, length-append}
-use Rattle.fdt_blob.specs.Tokens.{Token, begin_node, property, end_node, nop, word, padding, padded, token_bytes, is_text, IsToken, IsProperty, HasNameAt}
+use Rattle.fdt_blob.specs.Tokens.{Token, begin_node, property, end_node, nop, word, padding, padded, token_bytes, is_text, IsToken, IsProperty}
 use Rattle.fdt_blob.specs.Reading.{◌>>=◌, number_at, part_at, behind_zeros, text_at, begun_at, property_at, of_kind, token_at}
 use Rattle.fdt_blob.proofs.Bytes.{IsBytes, IsBytes-behind, bind_some, number_takes, number_again, part_takes, part_again, zeros_take, zeros_again, text_takes, text_again}
 

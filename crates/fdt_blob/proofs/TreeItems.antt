@@ -1,10 +1,9 @@
 -- The items of a tree, with others behind them, and the walks over them.
-use Rattle.std.proofs.Common.{◌≡◌, ℕ, zero, suc, ◌+◌, ◌-◌, Bool, true, false, cond, eqb, List, [], ◌∷◌, ◌++◌, length, map, drop, Option, Some, None, refl, sym, ap, ◌∙◌, append_assoc, arith, add-one}
-use Rattle.std.specs.Prelude.{◌&&◌, ◌==◌, if◌then◌else◌}
-use Rattle.std.proofs.lemmas.List.{length-append, length-map, drop-drop, drop_at}
+use Rattle.std.proofs.Common.{◌≡◌, ℕ, suc, ◌+◌, ◌-◌, false, cond, eqb, List, [], ◌∷◌, ◌++◌, length, map, Some, None, refl, ap, ◌∙◌, append_assoc, arith, add-one}
+use Rattle.std.proofs.lemmas.List.{length-append, length-map}
 use Rattle.std.proofs.lemmas.Bool.{ne_eqb}
-use Rattle.fdt_blob.specs.Trees.{Property, Tree, Trees, node, no_trees, tree, name_of, names_of, names_of_properties, value_in, same_name}
-use Rattle.fdt_blob.specs.Tokens.{Item, begins, holds, ends, property_item, tree_items, trees_items}
+use Rattle.fdt_blob.specs.Trees.{Property, Tree, Trees, node, no_trees, tree, names_of, names_of_properties, value_in, same_name}
+use Rattle.fdt_blob.specs.Tokens.{Item, begins, ends, property_item, tree_items, trees_items}
 use Rattle.fdt_blob.specs.Shape.{property_names, child_names}
 use Rattle.fdt_blob.specs.Places.{value_from}
 

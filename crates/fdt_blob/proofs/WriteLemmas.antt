@@ -7,9 +7,9 @@ use Rattle.fdt_blob.specs.declared.tree.Node.{Node, out-Node}
 use Rattle.fdt_blob.specs.declared.writer.WriteError.{WriteError}
 use Rattle.fdt_blob.specs.declared.writer.WriteError.TheVariants.{TooBig, Memory}
 use Rattle.fdt_blob.specs.Nodes.{property_view, tree_view}
-use Rattle.fdt_blob.specs.Tokens.{Item, begins, holds, ends, begin_node, word, token_bytes, property_item, tree_items, trees_items}
+use Rattle.fdt_blob.specs.Tokens.{Item, begins, ends, begin_node, word, token_bytes, property_item, tree_items, trees_items}
 use Rattle.fdt_blob.specs.Trees.{Tree}
-use Rattle.fdt_blob.specs.Spelling.{token_of, structure_of, strings_of, assembled, used_names, spelling, header_of}
+use Rattle.fdt_blob.specs.Spelling.{token_of, structure_of, strings_of, assembled, used_names, header_of}
 use Rattle.fdt_blob.specs.Writing.{Fails, Puts, texts, trees_of, items_bytes, names_after, parts_of, blob_of}
 use Rattle.fdt_blob.proofs.NodeLemmas.{tree_view_is}
 

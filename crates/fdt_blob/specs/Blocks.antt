@@ -1,5 +1,4 @@
 -- The blocks that the program keeps.
-use Rattle.std.specs.Prelude.{ℕ}
 use Rattle.fdt_blob.specs.declared.blocks.Block.{Block as Kept}
 use Rattle.fdt_blob.specs.Blob.{Block}
 

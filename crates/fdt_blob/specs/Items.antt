@@ -1,5 +1,5 @@
 -- The items that the program keeps.
-use Rattle.std.specs.Prelude.{ℕ, List, map, Option}
+use Rattle.std.specs.Prelude.{List, map, Option}
 use Rattle.std.specs.Option.{option_map}
 use Rattle.fdt_blob.specs.declared.items.Item.{Item as Kept}
 use Rattle.fdt_blob.specs.declared.items.Item.TheVariants.{Begins, Holds, Ends}

@@ -1,5 +1,5 @@
 -- The tree that a node of the program is.
-use Rattle.std.specs.Prelude.{ℕ, List, [], ◌∷◌, map}
+use Rattle.std.specs.Prelude.{map}
 use Rattle.fdt_blob.specs.declared.tree.Prop.{Prop}
 use Rattle.fdt_blob.specs.declared.tree.Node.{Node, Node', Row_of-Node, end_of-Node, more_of-Node}
 use Rattle.fdt_blob.specs.Trees.{Property, Tree, Trees, node, no_trees, tree}

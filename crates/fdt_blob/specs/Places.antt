@@ -1,5 +1,5 @@
 -- Nodes named by the place of their items.
-use Rattle.std.specs.Prelude.{◌≡◌, ℕ, ◌+◌, ◌-◌, Bool, ◌&&◌, ◌==◌, List, [], ◌∷◌, ◌++◌, drop, Option, Some, None, if◌then◌else◌}
+use Rattle.std.specs.Prelude.{◌≡◌, ℕ, ◌+◌, ◌-◌, ◌&&◌, ◌==◌, List, [], ◌∷◌, ◌++◌, drop, Option, Some, None, if◌then◌else◌}
 use Rattle.fdt_blob.specs.Trees.{Tree, Trees, same_name, tree_in}
 use Rattle.fdt_blob.specs.Blob.{StructureSpells}
 use Rattle.fdt_blob.specs.Tokens.{Item, begins, holds, ends, tree_items}

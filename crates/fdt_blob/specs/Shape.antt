@@ -1,6 +1,6 @@
 -- Which items are a tree's, read from left to right.
 use Rattle.std.specs.Prelude.{ℕ, ◌+◌, ◌-◌, Bool, true, false, not, ◌&&◌, ◌==◌, nat_lt, List, [], ◌∷◌, if◌then◌else◌}
-use Rattle.fdt_blob.specs.Trees.{is_node_name, is_property_name, is_empty_name, all_apart, most_levels, same_name}
+use Rattle.fdt_blob.specs.Trees.{is_node_name, is_property_name, is_empty_name, all_apart, most_levels}
 use Rattle.fdt_blob.specs.Tokens.{Item, begins, holds, ends}
 
 -- The rest of a tree's items, where this many nodes have begun and not ended, and the innermost has a child already or

@@ -1,5 +1,5 @@
 -- The one spelling of a tree that is written.
-use Rattle.std.specs.Prelude.{ℕ, ◌+◌, Bool, List, [], ◌∷◌, ◌++◌, length, replicate, if◌then◌else◌}
+use Rattle.std.specs.Prelude.{ℕ, ◌+◌, List, [], ◌∷◌, ◌++◌, length, replicate, if◌then◌else◌}
 use Rattle.std.specs.List.{list_any, flat_map}
 use Rattle.fdt_blob.specs.Trees.{Tree, same_name}
 use Rattle.fdt_blob.specs.Tokens.{Token, begin_node, property, end_node, token_bytes, end_bytes, word, Item, begins, holds, ends, tree_items}

@@ -1,7 +1,7 @@
 -- The structure block as tokens (Devicetree Specification, 5.4), and the tokens of a tree.
-use Rattle.std.specs.Prelude.{◌≡◌, ℕ, ◌+◌, ◌-◌, ◌%◌, ◌^◌, ◌<◌, ◌≤◌, Bool, ◌&&◌, nat_lt, nat_le, List, [], ◌∷◌, ◌++◌, length, map, take, drop, replicate, IsTrue, Option, Some, None}
+use Rattle.std.specs.Prelude.{◌≡◌, ℕ, ◌+◌, ◌-◌, ◌%◌, ◌^◌, ◌<◌, Bool, ◌&&◌, nat_lt, nat_le, List, [], ◌∷◌, ◌++◌, length, map, take, drop, replicate, IsTrue, Option, Some, None}
 use Rattle.std.specs.Int.{w32, to_be_bytes}
-use Rattle.std.specs.List.{list_all, flat_map, filter_map}
+use Rattle.std.specs.List.{list_all, filter_map}
 use Rattle.fdt_blob.specs.Trees.{Property, Tree, Trees, node, no_trees, tree}
 
 -- A token with what belongs to it. A property has its name, the name's place in the strings block, and its value.

@@ -1,4 +1,4 @@
-use Rattle.std.proofs.Common.{◌≡◌, ◌∙◌, sym, ap, false, take, arith}
+use Rattle.std.proofs.Common.{◌≡◌, ◌∙◌, false, take, arith}
 use Rattle.std.specs.Prelude.{nat_eq}
 use Rattle.std.specs.List.{list_all}
 use Rattle.fdt_blob.proofs.Pairs.{pairs_more}

@@ -1,4 +1,3 @@
-use Rattle.std.proofs.Common.{rules, arith}
 use Rattle.fdt_blob.proofs.PlaceItems.{is_within}
 use Rattle.fdt_blob.proofs.places.inner.Goals as goal
 

@@ -1,6 +1,6 @@
 use Rattle.std.proofs.Common.{◌≡◌, ◌<◌, ◌∙◌, sym, ap, subst, length, get_or, false}
 use Rattle.fdt_blob.specs.Trees.{is_node_name}
-use Rattle.fdt_blob.specs.declared.tree.Node.{Node, out-Node}
+use Rattle.fdt_blob.specs.declared.tree.Node.{out-Node}
 use Rattle.fdt_blob.proofs.NodeLemmas.{has_names_refused}
 use Rattle.fdt_blob.proofs.profile.+has_names.Goals as goal
 

@@ -1,7 +1,5 @@
-use Rattle.std.proofs.Common.{◌≡◌, ◌-◌, map, drop}
-use Rattle.std.specs.List.{list_all, list_any}
+use Rattle.std.proofs.Common.{◌≡◌, drop}
 use Rattle.fdt_blob.specs.Trees as trees
-use Rattle.fdt_blob.specs.Nodes.{property_view}
 use Rattle.fdt_blob.specs.Writing.{trees_of}
 use Rattle.fdt_blob.specs.declared.tree.Node.{out-Node}
 use Rattle.fdt_blob.proofs.profile.+has_names.Given as goal

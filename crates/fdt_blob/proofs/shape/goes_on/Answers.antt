@@ -1,6 +1,3 @@
-use Rattle.std.proofs.Common.{sym, ◌∙◌, ap}
-use Rattle.fdt_blob.specs.Items.{item_views}
-use Rattle.fdt_blob.specs.Shape.{goes_on}
 use Rattle.fdt_blob.proofs.Shapes.{goes_on_left}
 use Rattle.fdt_blob.proofs.shape.goes_on.Goals as goal
 

@@ -1,7 +1,6 @@
-use Rattle.std.proofs.Common.{◌≡◌, ◌+◌, ◌≤◌, ◌∙◌, sym, length, arith}
+use Rattle.std.proofs.Common.{◌∙◌, sym, arith}
 use Rattle.fdt_blob.specs.Items.{item_views, item_view_of}
-use Rattle.fdt_blob.specs.Reading.{as_item, token_at}
-use Rattle.fdt_blob.proofs.Cutting.{ReadsItem, reads_item, no_token, read_on, token_takes_four, is_stuck}
+use Rattle.fdt_blob.proofs.Cutting.{reads_item, no_token, read_on, token_takes_four, is_stuck}
 use Rattle.fdt_blob.proofs.structure.items_of.Goals as goal
 
 pub returns-in_default-clause-found : goal.returns-in_default-clause-found

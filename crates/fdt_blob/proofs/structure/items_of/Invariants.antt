@@ -1,5 +1,5 @@
 -- The block was read up to the rest, and each item took four bytes.
-use Rattle.std.proofs.Common.{◌≡◌, ◌+◌, ◌*◌, ◌≤◌, length, vec_len}
+use Rattle.std.proofs.Common.{◌+◌, ◌*◌, ◌≤◌, length, vec_len}
 use Rattle.fdt_blob.specs.Items.{item_views}
 use Rattle.fdt_blob.specs.Cut.{HasRead}
 use Rattle.fdt_blob.proofs.structure.items_of.Given as goal

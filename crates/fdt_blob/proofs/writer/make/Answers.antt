@@ -3,7 +3,7 @@ use Rattle.std.proofs.lemmas.Result.{err_from_is_err_and}
 use Rattle.fdt_blob.specs.Nodes.{tree_view}
 use Rattle.fdt_blob.specs.Tokens.{tree_items}
 use Rattle.fdt_blob.specs.Spelling.{structure_of, strings_of}
-use Rattle.fdt_blob.specs.Writing.{Fails, Makes, texts, names_after, parts_of, blob_of}
+use Rattle.fdt_blob.specs.Writing.{Fails, Makes, texts, names_after, parts_of}
 use Rattle.fdt_blob.proofs.WriteLemmas.{names_are, blob_is, fails_strings, fails_structure}
 use Rattle.fdt_blob.proofs.writer.make.Goals as goal
 

@@ -1,5 +1,3 @@
-use Rattle.std.proofs.Common.{◌≡◌}
-use Rattle.fdt_blob.specs.Blob.{StructureSpells}
 use Rattle.fdt_blob.proofs.reader.Reader.open.Goals as goal
 
 pub returns-in-None-clause-structure : goal.returns-in-None-clause-structure
