@@ -6,16 +6,8 @@ ghost use Rattle.std.specs.Option.{option_map, option_map_or};
 ghost use Rattle.fdt_blob.specs.Blob.{word_at as word_spec, has_header as header_spec, has_blocks as blocks_spec, structure_block as structure_spec, strings_block as strings_spec, first_pair as first_pair_spec, header_block, apart, is_placed as placed_spec, block_end, reservations_size as size_spec, reservations_block as reservations_spec, is_apart_from_blocks, bytes_of, total_of, HeaderRules, ReservationRules, BreaksEarly};
 ghost use Rattle.fdt_blob.specs.Blocks.{block_view};
 
+use crate::format::{COMPATIBLE, MAGIC, VERSION};
 use crate::tree::FdtPlace;
-
-/// The first word of a blob.
-const MAGIC: u32 = 0xd00d_feed;
-
-/// The version of the format.
-const VERSION: u32 = 17;
-
-/// The version that a reader must know at least.
-const COMPATIBLE: u32 = 16;
 
 /// The bytes of the header.
 const HEADER_BYTES: u32 = 40;

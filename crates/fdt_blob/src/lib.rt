@@ -3,6 +3,7 @@
 
 mod blocks;
 mod doubles;
+mod format;
 mod items;
 pub mod laws;
 mod names;

@@ -6,11 +6,9 @@ ghost use Rattle.fdt_blob.specs.Trees as trees;
 ghost use Rattle.fdt_blob.specs.Nodes.{property_view, tree_view};
 ghost use Rattle.fdt_blob.specs.Writing.{trees_of};
 
+use crate::format::LEVELS;
 use crate::names::{is_node_name, is_property_name};
 use crate::tree::{Node, Prop};
-
-/// The most levels of a tree, counted from the root as 1.
-const LEVELS: u32 = 16;
 
 /// Whether a tree keeps to the profile: the root's name is empty, each other name has 1 to 31 bytes of its set
 /// (Devicetree Specification v0.4, 2.2.1 and 2.2.4), no name stands twice among the properties of a node or

@@ -6,19 +6,8 @@ ghost use Rattle.fdt_blob.specs.Tokens.{padding as padding_spec};
 ghost use Rattle.fdt_blob.specs.Reading.{Gives, number_at, part_at, behind_zeros as behind_zeros_spec, text_at as text_spec, before_zero as before_zero_spec, begun_at, property_at, of_kind as of_kind_spec, token_at, as_item};
 ghost use Rattle.fdt_blob.specs.Items.{item_view, item_view_of};
 
+use crate::format::{BEGIN_NODE, END_NODE, NOP, PROP};
 use crate::items::Item;
-
-/// The token that begins a node; its name follows.
-const BEGIN_NODE: u32 = 1;
-
-/// The token that ends a node.
-const END_NODE: u32 = 2;
-
-/// The token of a property; the value's length, the name's place and the value follow.
-const PROP: u32 = 3;
-
-/// The token that says nothing.
-const NOP: u32 = 4;
 
 /// A name with the zero behind it has at most so many bytes.
 const MAX_TEXT: usize = 32;

@@ -4,11 +4,9 @@ ghost use Rattle.std.specs.Prelude.{◌≡◌, false};
 ghost use Rattle.fdt_blob.specs.Items.{item_views};
 ghost use Rattle.fdt_blob.specs.Shape.{is_shape as shape, goes_on as goes_on_spec};
 
+use crate::format::LEVELS;
 use crate::items::Item;
 use crate::names::{is_node_name, is_property_name};
-
-/// The most levels of a tree. The root is on the first.
-const MAX_LEVELS: usize = 16;
 
 /// Whether the items are those of a tree whose names and levels keep the rules.
 pub(crate) fn is_shape(items: &[Item]) -> bool
@@ -33,7 +31,7 @@ fn goes_on(items: &[Item]) -> bool
         }
         match item {
             Item::Begins(name) => {
-                if depth >= MAX_LEVELS || !is_node_name(name) {
+                if depth >= LEVELS || !is_node_name(name) {
                     return false;
                 }
                 depth += 1;

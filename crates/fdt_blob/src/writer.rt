@@ -10,6 +10,7 @@ ghost use Rattle.fdt_blob.specs.Blob.{Spells};
 ghost use Rattle.fdt_blob.specs.Writing.{Puts, Makes, parts_of, blob_of, texts, trees_of, items_bytes};
 ghost use Rattle.fdt_blob.specs.declared.writer.WriteError.TheVariants.{Memory};
 
+use crate::format::{BEGIN_NODE, COMPATIBLE, END, END_NODE, MAGIC, PROP, VERSION};
 use crate::strings::{list_node, place_of};
 use crate::tree::{Node, Prop};
 use std::alloc::{AllocError, AllocFailed, Global};
@@ -17,23 +18,9 @@ use std::alloc::{AllocError, AllocFailed, Global};
 /// The most bytes of a blob that is written.
 pub const BLOB_BYTES: usize = 4096;
 
-const MAGIC: u32 = 0xd00d_feed;
-
-const VERSION: u32 = 17;
-
-const COMPATIBLE: u32 = 16;
-
 const RESERVATIONS_AT: u32 = 40;
 
 const STRUCTURE_AT: u32 = 56;
-
-const BEGIN_NODE: u32 = 1;
-
-const END_NODE: u32 = 2;
-
-const PROP: u32 = 3;
-
-const END: u32 = 9;
 
 /// Why a tree wasn't written.
 #[derive(Clone, Copy, Debug, PartialEq)]
