@@ -7,7 +7,7 @@ use Rattle.fdt_blob.specs.declared.tree.Node.{Node, out-Node}
 use Rattle.fdt_blob.specs.declared.writer.WriteError.{WriteError}
 use Rattle.fdt_blob.specs.declared.writer.WriteError.TheVariants.{TooBig, Memory}
 use Rattle.fdt_blob.specs.Nodes.{property_view, tree_view}
-use Rattle.fdt_blob.specs.Tokens.{Item, begins, ends, begin_node, word, token_bytes, property_item, tree_items, trees_items}
+use Rattle.fdt_blob.specs.Tokens.{Item, begins, holds, ends, begin_node, word, token_bytes, property_item, tree_items, trees_items}
 use Rattle.fdt_blob.specs.Trees.{Tree}
 use Rattle.fdt_blob.specs.Spelling.{token_of, structure_of, strings_of, assembled, used_names, header_of}
 use Rattle.fdt_blob.specs.Writing.{Fails, Puts, texts, trees_of, items_bytes, names_after, parts_of, blob_of}
@@ -135,3 +135,41 @@ puts_rest old more mid part new (Err e) same h = let P : List ℕ → Type 0 = �
 pub four_steps : (o o1 o2 o3 a b c d : List ℕ) → o1 ≡ o ++ a → o2 ≡ o1 ++ b → o3 ≡ o2 ++ c → o3 ++ d ≡ o ++ (a ++ (b ++ (c ++ d)))
 four_steps o o1 o2 o3 a b c d e1 e2 e3 =
     ap (λ x. x ++ d) (e3 ∙ ap (λ x. x ++ c) (e2 ∙ ap (λ x. x ++ b) e1)) ∙ simp append_assoc
+
+-- the size of a structure block doesn't hang on the names
+sizes_agree : (names others : List (List ℕ)) (item : Item) → length (token_bytes (token_of names item)) ≡ length (token_bytes (token_of others item))
+sizes_agree names others (begins name) = refl
+sizes_agree names others (holds name value) = refl
+sizes_agree names others ends = refl
+
+items_agree : (names others : List (List ℕ)) (items : List Item) → length (items_bytes names items) ≡ length (items_bytes others items)
+unfolding items_bytes
+items_agree names others [] = refl
+items_agree names others (item ∷ items) =
+    omega (
+      arith,
+      sizes_agree names others item,
+      items_agree names others items,
+      length-append (token_bytes (token_of names item)) (items_bytes names items),
+      length-append (token_bytes (token_of others item)) (items_bytes others items),
+    )
+
+structures_agree : (names others : List (List ℕ)) (t : Tree) → length (structure_of names t) ≡ length (structure_of others t)
+structures_agree names others t =
+    omega (
+      arith,
+      items_agree names others (tree_items t),
+      ap length (structure_is names t),
+      ap length (structure_is others t),
+      length-append (items_bytes names (tree_items t)) (word 9),
+      length-append (items_bytes others (tree_items t)) (word 9),
+    )
+
+fails_long : (a b : List ℕ) (e : WriteError) → length a ≡ length b → Fails a e → Fails b e
+fails_long a b TooBig same h = omega arith
+fails_long a b Memory same h = tt
+
+pub fails_unnamed : (t : Tree) (names : List (List ℕ)) (e : WriteError) → Fails (structure_of names t) e → Fails (blob_of t) e
+fails_unnamed t names e h =
+    fails_structure t (names_after [] (tree_items t)) e refl
+    (fails_long (structure_of names t) (structure_of (names_after [] (tree_items t)) t) e (structures_agree names (names_after [] (tree_items t)) t) h)

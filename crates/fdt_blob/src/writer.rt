@@ -61,10 +61,12 @@ pub fn write(alloc: Global, root: &Node) -> Result<Vec<u8>, WriteError>
     make(alloc, root)
 }
 
-/// The blob of a tree.
+/// The blob of a tree. A structure block that is too big is seen first, with no names: each name is compared with the
+/// others, and so those of a few hundred properties at most are.
 fn make(alloc: Global, root: &Node) -> Result<Vec<u8>, WriteError>
     ensures { Makes (λ v. v.items) (blob_of (tree_view root.now)) result }
 {
+    let _unnamed = make_structure(alloc, &[], root)?;
     let mut names = Vec::new(alloc);
     list_node(&mut names, root)?;
     let strings = make_strings(alloc, &names)?;

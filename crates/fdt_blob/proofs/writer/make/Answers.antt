@@ -4,8 +4,13 @@ use Rattle.fdt_blob.specs.Nodes.{tree_view}
 use Rattle.fdt_blob.specs.Tokens.{tree_items}
 use Rattle.fdt_blob.specs.Spelling.{structure_of, strings_of}
 use Rattle.fdt_blob.specs.Writing.{Fails, Makes, texts, names_after, parts_of}
-use Rattle.fdt_blob.proofs.WriteLemmas.{names_are, blob_is, fails_strings, fails_structure}
+use Rattle.fdt_blob.proofs.WriteLemmas.{names_are, blob_is, fails_strings, fails_structure, fails_unnamed}
 use Rattle.fdt_blob.proofs.writer.make.Goals as goal
+
+pub returns-in_err-_unnamed : goal.returns-in_err-_unnamed
+returns-in_err-_unnamed c =
+    let p = err_from_is_err_and c.from_residual.result c.from_residual.ensures.1 in
+    rw (p.1, p.2) (fails_unnamed (tree_view c.args.root.now) [] c.in_err-_unnamed.field-0.0 c.in_err-_unnamed.ensures)
 
 pub returns-in_err-strings : goal.returns-in_err-strings
 returns-in_err-strings c =
