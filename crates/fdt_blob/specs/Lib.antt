@@ -1,0 +1,12 @@
+pub mod Trees
+pub mod Nodes
+pub mod Tokens
+pub mod Blob
+pub mod Spelling
+pub mod Writing
+pub mod Reading
+pub mod Blocks
+pub mod Items
+pub mod Cut
+pub mod Shape
+pub mod Places

@@ -1,0 +1,79 @@
+//! Looking into a blob.
+
+ghost use Rattle.std.specs.Prelude.{IfSome};
+ghost use Rattle.fdt_blob.specs.Places.{IsNodeAt};
+ghost use Rattle.fdt_tool.specs.Looks.{IsOpened};
+
+use crate::Outcome;
+use fdt_blob::{FdtPlace, NodeAt, OpenError, Reader};
+use std::io;
+
+/// Prints what stands at each path of a blob, or why the bytes are no blob.
+pub fn show<R: Print + AllocGlobal>(rt: &R, bytes: &[u8], paths: &[String]) -> io::Result<Outcome> {
+    match Reader::open(rt.alloc(), bytes) {
+        Ok(reader) => {
+            show_all(rt, &reader, paths)?;
+            Ok(Outcome::Done)
+        }
+        Err(OpenError::BadFdt(place)) => {
+            rt.println(refusal(place))?;
+            Ok(Outcome::Refused)
+        }
+        Err(OpenError::Memory) => Err(io::Error::from(io::ErrorKind::OutOfMemory)),
+    }
+}
+
+/// The line of a refused blob.
+fn refusal(place: FdtPlace) -> &'static str {
+    match place {
+        FdtPlace::Header => "refused: header",
+        FdtPlace::Reservations => "refused: reservations",
+        FdtPlace::Structure => "refused: structure",
+    }
+}
+
+/// Prints what stands at each path.
+fn show_all<R: Print + AllocGlobal>(rt: &R, reader: &Reader<'_>, paths: &[String]) -> io::Result<()>
+    requires { IsOpened reader.now }
+{
+    for path in paths {
+        show_path(rt, reader, path.as_str())?;
+    }
+    Ok(())
+}
+
+/// Prints what stands at a path: a property's value behind the last `/`, or a node's numbers of properties and of
+/// children where nothing stands behind it.
+fn show_path<R: Print + AllocGlobal>(rt: &R, reader: &Reader<'_>, path: &str) -> io::Result<()>
+    requires { IsOpened reader.now }
+{
+    let (place, name) = path.rsplit_once('/').unwrap_or(("", path));
+    let Some(node) = find(reader, place) else {
+        return println!(rt; "{path}: no node");
+    };
+    if name.is_empty() {
+        let (props, children) = reader.counts(node);
+        return println!(rt; "{path}: {props} properties, {children} children");
+    }
+    match reader.prop(node, name.as_bytes()) {
+        Some(value) => {
+            let value = hex::encode(rt.alloc(), value)?;
+            println!(rt; "{path} = {value}")
+        }
+        None => println!(rt; "{path}: no property"),
+    }
+}
+
+/// The node that the names of a path lead to, from the root down.
+fn find(reader: &Reader<'_>, path: &str) -> Option<NodeAt>
+    requires { IsOpened reader.now }
+    ensures { IfSome result (λ node. IsNodeAt reader.now node.0) }
+{
+    let mut node = reader.root();
+    for name in path.split('/') {
+        if !name.is_empty() {
+            node = reader.child(node, name.as_bytes())?;
+        }
+    }
+    Some(node)
+}
