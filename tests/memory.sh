@@ -1,7 +1,7 @@
 #!/bin/bash
 # Refuses, in turn, each request for memory that a run makes of the C library, which is each of its allocations:
 # the run ends with want of memory, and nothing stands on its output but whole blocks of the history, so here
-# nothing. Where the runtime can do without what it asked for, all is as ever, and that is told.
+# nothing. Where a refusal changes nothing at all, that is told.
 . "$(dirname "$0")/lib/common.sh"
 need_program
 
