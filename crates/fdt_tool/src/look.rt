@@ -1,30 +1,51 @@
 //! Looking into a blob.
 
-ghost use Rattle.std.specs.Prelude.{IfSome};
+ghost use Rattle.std.specs.Prelude.{◌≡◌, IfSome, Ok};
+ghost use Rattle.fdt_blob.specs.Blob.{Spells, BreaksAt};
 ghost use Rattle.fdt_blob.specs.Places.{IsNodeAt};
-ghost use Rattle.fdt_tool.specs.Looks.{IsOpened};
+ghost use Rattle.fdt_blob.specs.Trees.{Tree};
+ghost use Rattle.fdt_tool.specs.Looks.{IsOpened, IsBad, refusal_text};
 
 use crate::Outcome;
 use fdt_blob::{FdtPlace, NodeAt, OpenError, Reader};
 use std::io;
 
 /// Prints what stands at each path of a blob, or why the bytes are no blob.
-pub fn show<R: Print + AllocGlobal>(rt: &R, bytes: &[u8], paths: &[String]) -> io::Result<Outcome> {
+///
+/// Done says that the bytes spell a tree, and refused that they break the rules at a place. Usage never comes.
+pub fn show<R: Print + AllocGlobal>(rt: &R, bytes: &[u8], paths: &[String]) -> io::Result<Outcome>
+    ensures done { result ≡ Ok Outcome.Done → (t : Tree) × Spells bytes.now t }
+    ensures refused { result ≡ Ok Outcome.Refused → (place : FdtPlace) × BreaksAt bytes.now place }
+    ensures usage { result ≡ Ok Outcome.Usage → ⊥ }
+{
     match Reader::open(rt.alloc(), bytes) {
         Ok(reader) => {
             show_all(rt, &reader, paths)?;
             Ok(Outcome::Done)
         }
-        Err(OpenError::BadFdt(place)) => {
+        Err(error) => show_refused(rt, error),
+    }
+}
+
+/// Prints why bytes are no blob; where memory was wanted, that is the error.
+fn show_refused<R: Print>(rt: &R, error: OpenError) -> io::Result<Outcome>
+    ensures done { result ≡ Ok Outcome.Done → ⊥ }
+    ensures refused { result ≡ Ok Outcome.Refused → IsBad error }
+    ensures usage { result ≡ Ok Outcome.Usage → ⊥ }
+{
+    match error {
+        OpenError::BadFdt(place) => {
             rt.println(refusal(place))?;
             Ok(Outcome::Refused)
         }
-        Err(OpenError::Memory) => Err(io::Error::from(io::ErrorKind::OutOfMemory)),
+        OpenError::Memory => Err(io::Error::from(io::ErrorKind::OutOfMemory)),
     }
 }
 
 /// The line of a refused blob.
-fn refusal(place: FdtPlace) -> &'static str {
+fn refusal(place: FdtPlace) -> &'static str
+    ensures { result.now ≡ refusal_text place }
+{
     match place {
         FdtPlace::Header => "refused: header",
         FdtPlace::Reservations => "refused: reservations",

@@ -1,10 +1,15 @@
 //! The trees that the tool writes.
 
+ghost use Rattle.std.specs.Prelude.{◌≡◌, IfOk, is_some};
+ghost use Rattle.fdt_tool.specs.Samples.{is_sample};
+
 use fdt_blob::{Node, Prop};
 use std::alloc::{AllocError, Global};
 
 /// A tree by its name; none where no tree has it.
-pub fn sample(alloc: Global, name: &str) -> Result<Option<Node>, AllocError> {
+pub fn sample(alloc: Global, name: &str) -> Result<Option<Node>, AllocError>
+    ensures { IfOk result (λ root. is_some root ≡ is_sample name.now) }
+{
     let root = match name {
         "smallest" => node(alloc, b"")?,
         "handover" => handover(alloc)?,
