@@ -8,7 +8,7 @@ trap 'rm -rf "$work"' EXIT
 cd "$work" || exit 1
 
 # The program is proved and built first, where that is due.
-"$top/handover" run "$top/examples/first-path.script" >/dev/null || exit 1
+"$top/handover" --build || exit 1
 
 for writes in 500 1000 2000 4000; do
     {
@@ -24,3 +24,19 @@ for writes in 500 1000 2000 4000; do
     commands=$((writes + 4))
     echo "$writes writes: $(((end - begin) / 1000000)) ms, $(((end - begin) / 1000 / commands)) us a command, $(wc -l <text) lines"
 done
+
+# The instructions of one run, which are the same whatever else the machine does.
+if command -v valgrind >/dev/null; then
+    {
+        printf 'machine 64\nscratch 1 8\nround\nagent a\nmemfd m 0\n'
+        for index in $(seq 1 4000); do
+            echo "write m $((index % 4000)) 00112233445566778899aabbccddeeff"
+        done
+    } >script
+    valgrind --tool=callgrind --callgrind-out-file=callgrind \
+        "$top/crates/handover_cli/out/handover_cli" run script >text 2>log || exit 1
+    count=$(sed -n 's/.*Collected : \([0-9]*\)$/\1/p' log)
+    echo "4000 writes of 16 bytes: $((count / 1000)) thousand instructions, $((count / 4001)) a command"
+else
+    echo "valgrind isn't here, so no instructions were counted"
+fi

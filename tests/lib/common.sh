@@ -12,9 +12,8 @@ need_program() {
         skip "neither a built program nor rt is here"
         finish
     fi
-    # The launcher proves and builds the program where that is due, and says so.
-    "$top/handover" >/dev/null
-    if [ $? -eq 70 ]; then
+    # Behind the gate this finds the program that the gate built; else it proves and builds the program, and says so.
+    if ! "$top/handover" --build; then
         fail "the program is built"
         finish
     fi

@@ -133,8 +133,8 @@ fn has_blocks(bytes: &[u8]) -> bool
         && are_apart(structure, strings)
 }
 
-/// Whether all of the bytes are zero, as those of the pair (0, 0).
-fn is_zero(bytes: &[u8]) -> bool
+/// Whether each of the bytes is zero, as those of the pair (0, 0).
+pub(crate) fn is_zero(bytes: &[u8]) -> bool
     ensures { result ≡ list_all (nat_eq 0) bytes.now }
 {
     bytes.iter().all(|b| 0 == *b)

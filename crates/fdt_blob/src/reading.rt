@@ -6,6 +6,7 @@ ghost use Rattle.fdt_blob.specs.Tokens.{padding as padding_spec};
 ghost use Rattle.fdt_blob.specs.Reading.{Gives, number_at, part_at, behind_zeros as behind_zeros_spec, text_at as text_spec, before_zero as before_zero_spec, begun_at, property_at, of_kind as of_kind_spec, token_at, as_item};
 ghost use Rattle.fdt_blob.specs.Items.{item_view, item_view_of};
 
+use crate::blocks::is_zero;
 use crate::format::{BEGIN_NODE, END_NODE, NOP, PROP};
 use crate::items::Item;
 
@@ -40,14 +41,7 @@ fn behind_zeros(bytes: &[u8], count: usize) -> Option<&[u8]>
     ensures { Gives (λ x. x.now) result (behind_zeros_spec count bytes.now) }
 {
     let (zeros, rest) = take(bytes, count)?;
-    if all_zero(zeros) { Some(rest) } else { None }
-}
-
-/// Whether each of the bytes is zero.
-fn all_zero(bytes: &[u8]) -> bool
-    ensures { result ≡ list_all (nat_eq 0) bytes.now }
-{
-    bytes.iter().all(|b| 0 == *b)
+    if is_zero(zeros) { Some(rest) } else { None }
 }
 
 /// How many bytes lead to the next multiple of 4.

@@ -9,9 +9,9 @@ use Rattle.ho_io.specs.Told.{behind, in_front}
 use Rattle.ho_io.specs.Outcome.{IfTooLong}
 use Rattle.ho_io.specs.declared.source.ReadError.{ReadError}
 use Rattle.ho_io.specs.declared.source.ReadError.TheVariants.{TooLong}
-use Rattle.ho_events.specs.Script.{script_of, refused_line, outcome_of}
+use Rattle.ho_events.specs.Script.{Refusal, script_of, outcome_of}
 use Rattle.ho_events.specs.declared.script.Script.{Script}
-use Rattle.handover_cli.specs.Refusals.{refusal_of, line_text, too_long_text, IsRefusal}
+use Rattle.handover_cli.specs.Refusals.{refused_line, refusal_of, line_text, too_long_text, IsRefusal}
 use Rattle.handover_cli.specs.Run.{IsLegalText}
 use Rattle.handover_cli.specs.Due.{IsDueOf, IsDue, WroteFront}
 
@@ -39,13 +39,13 @@ pub refusal_past : (bytes : List ℕ) → SCRIPT_BYTES < length bytes → refusa
 unfolding refusal_of
 refusal_past bytes h = chosen_first _ _ _ (past_test (length bytes) SCRIPT_BYTES h)
 
-no_error : (r : Result Script ℕ) → (script : Script) → result_ok r ≡ Some script → result_err r ≡ None
+no_error : (r : Result Script Refusal) → (script : Script) → result_ok r ≡ Some script → result_err r ≡ None
 no_error (Ok s) script h = refl
 no_error (Err n) script h = absurd cc
 
 -- a script that is read isn't refused
-pub accepted : (bytes : List ℕ) → length bytes ≤ SCRIPT_BYTES → (script : Script) → script_of bytes ≡ Some script → refusal_of bytes ≡ None
-accepted bytes short script h = refusal_within bytes short ∙ ap (option_map line_text) (no_error (outcome_of bytes) script h)
+pub accepted : (bytes : List ℕ) → length bytes ≤ SCRIPT_BYTES → (script : Script) → script_of true bytes ≡ Some script → refusal_of bytes ≡ None
+accepted bytes short script h = refusal_within bytes short ∙ ap (λ (r : Option Refusal). option_map line_text (option_map (λ r. r.line) r)) (no_error (outcome_of true bytes) script h)
 
 -- its first refused line is told
 pub refused : (bytes : List ℕ) → length bytes ≤ SCRIPT_BYTES → (line : ℕ) → refused_line bytes ≡ Some line → refusal_of bytes ≡ Some (line_text line)

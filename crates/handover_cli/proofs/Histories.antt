@@ -16,7 +16,7 @@ use Rattle.ho_events.specs.declared.script.AgentWork.{AgentWork}
 use Rattle.ho_events.specs.declared.script.Block.{Block}
 use Rattle.ho_events.specs.declared.script.Block.TheVariants.{Round}
 use Rattle.ho_events.specs.declared.script.Script.{Script}
-use Rattle.ho_events.specs.Script.{is_built_script, is_built_block, is_built_work, is_built}
+use Rattle.ho_events.specs.Script.Rules.{are_numbered, is_numbered, sections_of}
 use Rattle.ho_base.specs.Objects.{pool_no, registry_no, session_no, file_no}
 use Rattle.ho_base.specs.declared.limits.TheConstants.{FILES}
 use Rattle.ho_events.proofs.Stamps.{and_both, and_left, and_right}
@@ -264,16 +264,10 @@ idle_legal shape script blocks es shape_is same idle none =
     legal bs e i = blocks_legal shape script bs [] e refl (idle_blocks bs i) (idle_objects shape) (idle_agents bs i)
 
 -- the first command has number 1
-pub first_is_one : (script : Script) → (work : AgentWork) → script.blocks ≡ Round (work ∷ []) ∷ [] → IsTrue (is_built_script script) → work.first ≡ 1
-first_is_one script work h built =
-    let all : IsTrue (list_all is_built_block (Round (work ∷ []) ∷ [])) =
-    subst (λ bs. IsTrue (list_all is_built_block bs)) h
-    (and_right (is_some script.shape && length script.fails == 0 && nat_le (length script.blocks) 1) (list_all is_built_block script.blocks) built) in
-    let round : IsTrue (is_built_block (Round (work ∷ []))) = and_left (is_built_block (Round (work ∷ []))) (list_all is_built_block []) all in
-    let works : IsTrue (list_all is_built_work (work ∷ [])) = and_right (nat_le (length (work ∷ [])) 1) (list_all is_built_work (work ∷ [])) round in
-    let one : IsTrue (is_built_work work) = and_left (is_built_work work) (list_all is_built_work []) works in
-    let numbers : IsTrue (work.agent.0 == 1 && work.first == 1) = and_left (work.agent.0 == 1 && work.first == 1) (list_all is_built work.commands) one in
-    test_equal work.first 1 (and_right (work.agent.0 == 1) (work.first == 1) numbers)
+pub first_is_one : (script : Script) → (work : AgentWork) → script.blocks ≡ Round (work ∷ []) ∷ [] → IsTrue (is_numbered script) → work.first ≡ 1
+first_is_one script work h numbered =
+    let all : IsTrue (are_numbered [] (work ∷ [])) = subst (λ bs. IsTrue (are_numbered [] (sections_of bs))) h numbered in
+    test_equal work.first 1 (and_left (work.first == 1) true all)
 
 pub kept_ok : {A E : Type 0} → (r : Result A E) → (P Q : A → Type 0) → ((a : A) → P a → Q a) → IfOk r P → IfOk r Q
 kept_ok (Ok a) P Q f h = f a h
@@ -281,15 +275,15 @@ kept_ok (Err e) P Q f h = tt
 
 -- the work that a run did is a legal history of its script
 pub work_history : (script : Script) → (blocks : List Block) → (work : AgentWork) → (number : ℕ) → (shape given : Layout) → (commands : List Command) → (es : List Entry)
-    → IsTrue (is_built_script script) → script.shape ≡ Some given → script.blocks ≡ blocks → blocks ≡ Round (work ∷ []) ∷ []
+    → IsTrue (is_numbered script) → script.shape ≡ Some given → script.blocks ≡ blocks → blocks ≡ Round (work ∷ []) ∷ []
     → number ≡ 0 → shape ≡ given → commands ≡ work.commands
     → IsWorkOf work.agent.0 number shape commands work.first es → IsHistory script es
-work_history script blocks work number shape given commands es built shape_is same only zero of_shape all h =
+work_history script blocks work number shape given commands es numbered shape_is same only zero of_shape all h =
     let round : script.blocks ≡ Round (work ∷ []) ∷ [] = same ∙ only in
     let w0 : IsWorkOf work.agent.0 0 shape commands work.first es = subst (λ n. IsWorkOf work.agent.0 n shape commands work.first es) zero h in
     let w1 : IsWorkOf work.agent.0 0 given commands work.first es = subst (λ (s : Layout). IsWorkOf work.agent.0 0 s commands work.first es) of_shape w0 in
     let w2 : IsWorkOf work.agent.0 0 given work.commands work.first es = subst (λ cs. IsWorkOf work.agent.0 0 given cs work.first es) all w1 in
-    work_legal given script work es shape_is round (first_is_one script work round built) w2
+    work_legal given script work es shape_is round (first_is_one script work round numbered) w2
 
 -- the text of a legal history behind the output
 pub wrote_legal : (bytes text given : List ℕ) → (old new : Option (List ℕ)) → IsLegalText bytes text → given ≡ text → new ≡ behind old given

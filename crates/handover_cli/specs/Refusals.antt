@@ -1,7 +1,7 @@
 -- What is written of words that fit nothing, and of a script that is refused.
-use Rattle.std.specs.Prelude.{◌≡◌, ℕ, nat_lt, if◌then◌else◌, List, ◌++◌, length, codes, decimal, Option, Some, None, option_map}
+use Rattle.std.specs.Prelude.{◌≡◌, ℕ, true, nat_lt, if◌then◌else◌, List, ◌++◌, length, codes, decimal, Option, Some, None, option_map}
 use Rattle.ho_base.specs.declared.limits.TheConstants.{SCRIPT_BYTES}
-use Rattle.ho_events.specs.Script.{refused_line}
+use Rattle.ho_events.specs.Script.{refusal_of as script_refusal}
 
 -- the line that says which words the program takes
 abbrev pub usage_line : List ℕ
@@ -13,6 +13,10 @@ line_text line = codes "script refused: line " ++ (decimal line ++ codes ": late
 
 abbrev pub too_long_text : List ℕ
 too_long_text = codes "script refused: too long\n"
+
+-- the number of a script's first refused line. Each reason is written as `later` so far
+abbrev pub refused_line : List ℕ → Option ℕ
+refused_line script_bytes = option_map (λ r. r.line) (script_refusal true script_bytes)
 
 -- The line that is due for a script of these bytes, where it is refused. One that has more bytes than a script
 -- may have is too long, and no line of it is told; else its first refused line is.

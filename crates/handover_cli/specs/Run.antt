@@ -1,5 +1,5 @@
 -- What a run writes.
-use Rattle.std.specs.Prelude.{◌≡◌, ℕ, List, ◌++◌, Option, Some}
+use Rattle.std.specs.Prelude.{◌≡◌, ℕ, true, List, ◌++◌, Option, Some}
 use Rattle.ho_base.specs.ShapeRule.{Layout}
 use Rattle.ho_events.specs.Legal.{IsLegal}
 use Rattle.ho_events.specs.Script.{script_of}
@@ -19,7 +19,7 @@ pub record IsHistory (script : Script) (entries : List Entry) : Type 0 where
 -- these bytes are the text of a legal history of the script that the other bytes spell
 pub record IsLegalText (script_bytes text : List ℕ) : Type 0 where
   pub script : Script
-  pub read : script_of script_bytes ≡ Some script
+  pub read : script_of true script_bytes ≡ Some script
   pub entries : List Entry
   pub text_is : text ≡ text_of entries
   pub history : IsHistory script entries

@@ -1,6 +1,6 @@
 -- What comes of the bytes of a script.
 use Rattle.std.specs.Prelude.{◌≡◌, ℕ, List, Some}
-use Rattle.ho_events.specs.Script.{refused_line}
+use Rattle.handover_cli.specs.Refusals.{refused_line}
 use Rattle.handover_cli.specs.Run.{IsLegalText}
 use Rattle.handover_cli.specs.declared.run.Told as told
 

@@ -2,21 +2,18 @@
 
 ghost use Rattle.std.specs.Prelude.{◌≡◌, ◌+◌, ◌<◌, ◌^◌, IsTrue, IfOk, IfErr, OnOk, length, []};
 ghost use Rattle.std.specs.List.{list_all};
-ghost use Rattle.ho_events.specs.Script.{is_built};
-ghost use Rattle.handover_cli.specs.Files.{AreOf};
-ghost use Rattle.handover_cli.specs.Machine.{Agent, no_hands};
+ghost use Rattle.ho_events.specs.Script.Rules.{is_built};
+ghost use Rattle.phys_frames.specs.Memory.{AreOf};
+ghost use Rattle.machine_core.specs.Machine.{Agent, no_hands};
 ghost use Rattle.handover_cli.specs.Rounds.{HaveDone, IsWorkOf};
-ghost use Rattle.handover_cli.specs.Turns.{IsReady, SameAgent};
+ghost use Rattle.luo_calls.specs.Turns.{IsReady, SameAgent};
 
-use crate::luo_calls::do_command::{Outcome, do_command};
-use crate::machine_core::kernel::Kernel;
-use crate::machine_core::labels::Labels;
-use crate::machine_core::plain::PlainReach;
-use crate::machine_core::reach::Reach;
 use ho_base::numbers::{AgentNo, NoMemory};
 use ho_events::command::Command;
 use ho_events::entry::Entry;
 use ho_events::slip::At;
+use luo_calls::{Outcome, do_command};
+use machine_core::{Kernel, Labels, PlainReach, Reach, Spent};
 use phys_frames::folio::Folio;
 use std::alloc::Global;
 
@@ -76,13 +73,23 @@ pub fn run_alone(
     match do_commands(alloc, &mut reach, at, commands) {
         Ok(()) => {
             let (spent, entries) = reach.log();
-            spent.give_up(Vec::new(alloc));
+            end_kernel(spent, Vec::new(alloc));
             Ok(entries)
         }
         Err(folios) => {
             let (spent, _) = reach.log();
-            spent.give_up(folios);
+            end_kernel(spent, folios);
             Err(NoMemory)
         }
+    }
+}
+
+/// Gives a kernel's memory back, with that of folios which no object had. Where a frame didn't come home, the memory of
+/// all frames stays taken until the program ends; that this never happens isn't proved yet.
+fn end_kernel(spent: Spent, folios: Vec<Folio>)
+    requires { AreOf spent folios.items }
+{
+    if let Err(frames) = spent.give_up(folios) {
+        frames.forget();
     }
 }

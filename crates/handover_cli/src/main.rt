@@ -2,16 +2,7 @@
 #![tactic(auto)]
 
 mod agent_runner;
-mod by_name;
-mod luo_calls;
-mod machine_core;
-mod memfd_file;
-mod plain_turn;
-mod pool_core;
-mod registry_core;
 mod run;
-mod script_text;
-mod session_core;
 #[cfg(test)]
 mod tests;
 

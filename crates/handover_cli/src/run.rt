@@ -1,21 +1,19 @@
 //! Runs a script: reads it, does its work and writes its history.
 
-ghost use Rattle.std.specs.Prelude.{◌≡◌, ◌⊎◌, IsTrue, IfOk, IfErr, IfSome, MatchOption, List, option_map, map, length, nat_le, ◌<◌, ◌≤◌, Some, None, string_bytes};
+ghost use Rattle.std.specs.Prelude.{◌≡◌, ◌⊎◌, IsTrue, IfOk, IfErr, IfSome, MatchOption, List, option_map, map, length, nat_le, is_some, ◌<◌, ◌≤◌, Some, None, string_bytes};
 ghost use Rattle.ho_io.specs.Told.{Rose, behind, with_item, IsOneOf};
 ghost use Rattle.ho_io.specs.declared.host.Way.TheVariants.{Open};
 ghost use Rattle.std.specs.List.{list_all};
-ghost use Rattle.ho_events.specs.Script.{is_built_script, is_built_block};
+ghost use Rattle.ho_events.specs.Script.Rules.{is_built_script, is_numbered, is_single_block, is_single_script, is_small_script, sections_of, total_commands};
 ghost use Rattle.handover_cli.specs.RunTold.{TellsOf};
 ghost use Rattle.handover_cli.specs.Run.{IsHistory, IsLegalText, WritesLegal, RanLegally, WroteRefusal, RanRefused};
 ghost use Rattle.handover_cli.specs.Refusals.{usage_line, line_text, too_long_text, IsAccepted, IsRefusal};
 ghost use Rattle.handover_cli.specs.Due.{IsDue, IsDueFor, WroteFront, Completes};
 ghost use Rattle.handover_cli.specs.Asked.{AsksOnly, Opened};
 ghost use Rattle.handover_cli.specs.Words.{fits_run, is_file_name};
-ghost use Rattle.handover_cli.specs.Works.{IsOnlyWork, is_short, is_short_block};
+ghost use Rattle.handover_cli.specs.Works.{IsOnlyWork};
 
 use crate::agent_runner::run_alone;
-use crate::machine_core::kernel::Kernel;
-use crate::script_text::{ScriptError, read};
 use ho_base::limits::{COMMANDS, SCRIPT_BYTES};
 use ho_base::numbers::NoMemory;
 use ho_events::entry::Entry;
@@ -23,6 +21,8 @@ use ho_events::script::{AgentWork, Block, Script};
 use ho_events::slip::At;
 use ho_events::text::text;
 use ho_io::{Host, ReadError, put_all, read_all};
+use machine_core::Kernel;
+use script_text::{ScriptError, read};
 use std::alloc::Global;
 
 /// The words that the program takes.
@@ -49,8 +49,8 @@ pub enum Status {
 /// The only work of a script, if it has one.
 fn only_work(blocks: &[Block]) -> Option<&AgentWork>
     requires few { IsTrue (nat_le (length blocks.now) 1) }
-    requires built { IsTrue (list_all is_built_block blocks.now) }
-    requires short { IsTrue (list_all is_short_block blocks.now) }
+    requires single { IsTrue (list_all is_single_block blocks.now) }
+    requires small { total_commands (sections_of blocks.now) ≤ COMMANDS }
     ensures only { IsOnlyWork blocks.now (option_map (λ w. w.now) result) }
     ensures few { IfSome result (λ w. length w.now.commands ≤ COMMANDS) }
 {
@@ -67,8 +67,11 @@ fn only_work(blocks: &[Block]) -> Option<&AgentWork>
 ///
 /// [`NoMemory`] where memory of the host was wanted.
 fn history(alloc: Global, script: Script) -> Result<Vec<Entry>, NoMemory>
+    requires shaped { IsTrue (is_some script.shape) }
     requires built { IsTrue (is_built_script script) }
-    requires short { IsTrue (is_short script) }
+    requires numbered { IsTrue (is_numbered script) }
+    requires single { IsTrue (is_single_script script) }
+    requires small { IsTrue (is_small_script script) }
     ensures { IfOk result (λ entries. IsHistory script entries.items) }
 {
     let Script {
@@ -103,7 +106,7 @@ fn history_text(alloc: Global, bytes: &[u8]) -> Told
     requires { length bytes.now < u32.MAX }
     ensures { TellsOf bytes.now result }
 {
-    let script = match read(alloc, bytes) {
+    let script = match read(alloc, bytes, true) {
         Ok(script) => script,
         Err(ScriptError::Bad { line, reason: _ }) => return Told::Refused(line),
         Err(ScriptError::Memory) => return Told::Memory,

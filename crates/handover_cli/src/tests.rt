@@ -1,6 +1,9 @@
 //! Worked runs over a host in memory.
 
 mod drip;
+mod files;
+mod kernels;
+mod pools;
 
 use crate::run::{Status, run};
 use crate::tests::drip::{DROP_BYTES, Drip};

@@ -1,4 +1,7 @@
-pub mod Written
-pub mod Runs
+pub mod ByNames
 pub mod Deeds
+pub mod PlainTurns
+pub mod Runs
 pub mod Stamps
+pub mod Ties
+pub mod Written

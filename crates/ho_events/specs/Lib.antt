@@ -1,10 +1,12 @@
 pub mod Appended
+pub mod ByName
 pub mod File
 pub mod Handler
 pub mod History
 pub mod Legal
 pub mod Lines
 pub mod Lists
+pub mod PlainTurns
 pub mod Pool
 pub mod Registry
 pub mod Script

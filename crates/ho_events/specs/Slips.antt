@@ -2,7 +2,9 @@
 use Rattle.std.specs.Prelude.{◌≡◌, ℕ, ◌+◌, ◌≤◌, max, List, [], length, vec_capacity}
 use Rattle.ho_base.specs.declared.numbers.Pfn.{Pfn}
 use Rattle.ho_events.specs.declared.slip.At.{At}
+use Rattle.ho_events.specs.declared.slip.Listed.{Listed}
 use Rattle.ho_events.specs.declared.slip.Lists.{Lists}
+use Rattle.ho_events.specs.declared.slip.ReplyLists.{ReplyLists}
 use Rattle.ho_events.specs.declared.entry.Entry.{Entry}
 use Rattle.ho_events.specs.declared.entry.Place.{Place}
 use Rattle.ho_events.specs.declared.event.Event.{Event}
@@ -10,21 +12,23 @@ use Rattle.ho_events.specs.declared.event.Event.TheVariants.{PoolGive, PoolMark,
 use Rattle.ho_events.specs.declared.reply.Reply.{Reply}
 use Rattle.ho_events.specs.declared.reply.Reply.TheVariants.{OkBytes, OkRuns, KeptRuns, Gone, Got}
 
--- how many listed numbers and how many bytes there is memory for
-pub record Wanted : Type 0 where
-  pub numbers : ℕ
-  pub bytes : ℕ
-
 -- four empty lists, each with memory for so many numbers or bytes
-pub record HasRoom (numbers bytes : ℕ) (l : Lists) : Type 0 where
+pub record HasRoom (listed : Listed) (l : Lists) : Type 0 where
   pub event_runs_empty : l.event_runs.items ≡ []
   pub event_bytes_empty : l.event_bytes.items ≡ []
   pub reply_runs_empty : l.reply_runs.items ≡ []
   pub reply_bytes_empty : l.reply_bytes.items ≡ []
-  pub event_runs_room : numbers ≤ vec_capacity l.event_runs
-  pub event_bytes_room : bytes ≤ vec_capacity l.event_bytes
-  pub reply_runs_room : numbers ≤ vec_capacity l.reply_runs
-  pub reply_bytes_room : bytes ≤ vec_capacity l.reply_bytes
+  pub event_runs_room : listed.event_numbers ≤ vec_capacity l.event_runs
+  pub event_bytes_room : listed.event_bytes ≤ vec_capacity l.event_bytes
+  pub reply_runs_room : listed.reply_numbers ≤ vec_capacity l.reply_runs
+  pub reply_bytes_room : listed.reply_bytes ≤ vec_capacity l.reply_bytes
+
+-- the two lists of a reply alone
+pub record HasReplyRoom (listed : Listed) (l : ReplyLists) : Type 0 where
+  pub runs_empty : l.runs.items ≡ []
+  pub bytes_empty : l.bytes.items ≡ []
+  pub runs_room : listed.reply_numbers ≤ vec_capacity l.runs
+  pub bytes_room : listed.reply_bytes ≤ vec_capacity l.bytes
 
 -- the runs and the bytes that an event lists
 abbrev pub event_runs : Event → List Pfn
@@ -75,3 +79,10 @@ pub record HasRoomFor (event : Event) (reply : Reply) (l : Lists) : Type 0 where
   pub event_bytes_room : length (event_bytes event) ≤ vec_capacity l.event_bytes
   pub reply_runs_room : length (reply_runs reply) ≤ vec_capacity l.reply_runs
   pub reply_bytes_room : length (reply_bytes reply) ≤ vec_capacity l.reply_bytes
+
+-- the two lists of a reply alone, each with memory for what the reply lists
+pub record HasReplyRoomFor (reply : Reply) (l : ReplyLists) : Type 0 where
+  pub runs_empty : l.runs.items ≡ []
+  pub bytes_empty : l.bytes.items ≡ []
+  pub runs_room : length (reply_runs reply) ≤ vec_capacity l.runs
+  pub bytes_room : length (reply_bytes reply) ≤ vec_capacity l.bytes

@@ -1,12 +1,12 @@
 //! Copies of entries into memory that was taken before.
 
 ghost use Rattle.std.specs.Prelude.{◌≡◌, ◌+◌, ◌<◌, ◌≤◌, ◌^◌, length, max, [], vec_capacity};
-ghost use Rattle.ho_events.specs.Slips.{HasRoomFor, entry_at, event_runs, event_bytes, reply_runs, reply_bytes};
+ghost use Rattle.ho_events.specs.Slips.{HasRoomFor, HasReplyRoomFor, entry_at, event_runs, event_bytes, reply_runs, reply_bytes};
 
 use crate::entry::{Entry, Place};
 use crate::event::Event;
 use crate::reply::Reply;
-use crate::slip::{At, Lists, Turned};
+use crate::slip::{At, Lists, ReplyLists, Turned};
 use ho_base::Items;
 use ho_base::numbers::Pfn;
 
@@ -141,12 +141,12 @@ pub fn turn(
     event: Event,
     reply: Reply,
     copy: Lists,
-    value: Lists,
+    value: ReplyLists,
 ) -> (Entry, Turned<Reply>)
     requires agent_stamp { at.last < 2 ^ 63 }
     requires object_stamp { last < 2 ^ 63 }
     requires copy { HasRoomFor event reply copy }
-    requires value { HasRoomFor event reply value }
+    requires value { HasReplyRoomFor reply value }
     ensures kept { result.0 ≡ entry_at at last object event reply }
     ensures told { result.1.entry ≡ entry_at at last object event reply }
     ensures value { result.1.value ≡ reply }
@@ -161,7 +161,7 @@ pub fn turn(
         event: event_copy(&event, copy.event_runs, copy.event_bytes),
         reply: reply_copy(&reply, copy.reply_runs, copy.reply_bytes),
     };
-    let answer = reply_copy(&reply, value.reply_runs, value.reply_bytes);
+    let answer = reply_copy(&reply, value.runs, value.bytes);
     let kept = Entry {
         kernel: at.kernel,
         stamp,

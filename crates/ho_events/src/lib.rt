@@ -1,6 +1,8 @@
 //! Scripts, and the history that a run of one leaves: entries, their text, and what makes them legal.
 #![tactic(auto)]
 
+pub mod append;
+pub mod by_name;
 pub mod chronicle;
 pub mod command;
 pub mod copies;

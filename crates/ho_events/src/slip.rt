@@ -1,12 +1,9 @@
 //! The memory of a turn, taken before the turn, so that the turn itself takes none.
 
-ghost use Rattle.std.specs.Prelude.{◌≡◌, ◌+◌, ◌<◌, ◌≤◌, ◌^◌, IfOk, length, max, [], vec_capacity};
-ghost use Rattle.ho_events.specs.Slips.{HasRoom, entry_at, event_runs, event_bytes, reply_runs, reply_bytes};
+ghost use Rattle.std.specs.Prelude.{◌≡◌, IfOk};
+ghost use Rattle.ho_events.specs.Slips.{HasRoom, HasReplyRoom};
 
-use crate::entry::{Entry, Place};
-use crate::event::Event;
-use crate::reply::Reply;
-use ho_base::Items;
+use crate::entry::Entry;
 use ho_base::numbers::{AgentNo, NoMemory, Pfn};
 use std::alloc::{AllocError, Global};
 use std::marker::Model;
@@ -21,6 +18,15 @@ pub struct At {
     pub last: u64,
 }
 
+/// At most how many numbers and bytes the event and the reply of an entry list.
+#[derive(Clone, Copy, Debug)]
+pub struct Listed {
+    pub event_numbers: u32,
+    pub event_bytes: u32,
+    pub reply_numbers: u32,
+    pub reply_bytes: u32,
+}
+
 /// Empty lists with memory for what an entry lists.
 #[derive(Drop)]
 pub struct Lists {
@@ -30,24 +36,32 @@ pub struct Lists {
     pub reply_bytes: Vec<u8>,
 }
 
-/// Memory for one entry and its copies, seen as the numbers and the bytes that it was made for.
+/// Empty lists with memory for what a reply lists.
+#[derive(Drop)]
+pub struct ReplyLists {
+    pub runs: Vec<Pfn>,
+    pub bytes: Vec<u8>,
+}
+
+/// Memory for one entry, its copy and one more copy of its reply, seen as what it was made for. Where nothing is
+/// listed it takes no memory.
 #[derive(Drop)]
 pub struct Room {
-    numbers: u32,
-    bytes: u32,
+    listed: Listed,
     own: Lists,
     copy: Lists,
-    value: Lists,
+    value: ReplyLists,
 }
 
 impl Model for Room {
-    ghost use Rattle.ho_events.specs.Slips.{Wanted, HasRoom};
+    ghost use Rattle.ho_events.specs.Slips.{HasRoom, HasReplyRoom};
+    ghost use Rattle.ho_events.specs.declared.slip.Listed.{Listed};
 
-    ghost Value = { Wanted };
+    ghost Value = { Listed };
 
-    ghost view = { λ r. record { numbers = r.numbers; bytes = r.bytes } };
+    ghost view = { λ r. r.listed };
 
-    ghost invariant = { λ r. HasRoom r.numbers r.bytes r.own × HasRoom r.numbers r.bytes r.copy × HasRoom r.numbers r.bytes r.value };
+    ghost invariant = { λ r. HasRoom r.listed r.own × HasRoom r.listed r.copy × HasReplyRoom r.listed r.value };
 }
 
 /// Who takes a turn, and the memory for its entry.
@@ -64,43 +78,92 @@ pub struct Turned<T> {
     pub value: T,
 }
 
+impl Listed {
+    /// Nothing is listed.
+    pub fn nothing() -> Listed
+        ensures { result ≡ record { event_numbers = 0; event_bytes = 0; reply_numbers = 0; reply_bytes = 0 } }
+    {
+        Listed {
+            event_numbers: 0,
+            event_bytes: 0,
+            reply_numbers: 0,
+            reply_bytes: 0,
+        }
+    }
+
+    /// The event lists so many numbers and bytes, the reply none.
+    pub fn in_event(numbers: u32, bytes: u32) -> Listed
+        ensures { result ≡ record { event_numbers = numbers; event_bytes = bytes; reply_numbers = 0; reply_bytes = 0 } }
+    {
+        Listed {
+            event_numbers: numbers,
+            event_bytes: bytes,
+            reply_numbers: 0,
+            reply_bytes: 0,
+        }
+    }
+
+    /// The reply lists so many numbers and bytes, the event none.
+    pub fn in_reply(numbers: u32, bytes: u32) -> Listed
+        ensures { result ≡ record { event_numbers = 0; event_bytes = 0; reply_numbers = numbers; reply_bytes = bytes } }
+    {
+        Listed {
+            event_numbers: 0,
+            event_bytes: 0,
+            reply_numbers: numbers,
+            reply_bytes: bytes,
+        }
+    }
+}
+
 impl Lists {
-    /// Empty lists with memory for so many numbers and bytes each.
-    fn make(alloc: Global, numbers: u32, bytes: u32) -> Result<Lists, AllocError>
-        ensures { IfOk result (λ l. HasRoom numbers bytes l) }
+    /// Empty lists with memory for so much each.
+    fn make(alloc: Global, listed: Listed) -> Result<Lists, AllocError>
+        ensures { IfOk result (λ l. HasRoom listed l) }
     {
         Ok(Lists {
-            event_runs: Vec::with_capacity(alloc, numbers as usize)?,
-            event_bytes: Vec::with_capacity(alloc, bytes as usize)?,
-            reply_runs: Vec::with_capacity(alloc, numbers as usize)?,
-            reply_bytes: Vec::with_capacity(alloc, bytes as usize)?,
+            event_runs: Vec::with_capacity(alloc, listed.event_numbers as usize)?,
+            event_bytes: Vec::with_capacity(alloc, listed.event_bytes as usize)?,
+            reply_runs: Vec::with_capacity(alloc, listed.reply_numbers as usize)?,
+            reply_bytes: Vec::with_capacity(alloc, listed.reply_bytes as usize)?,
+        })
+    }
+}
+
+impl ReplyLists {
+    /// Empty lists with memory for so much each.
+    fn make(alloc: Global, listed: Listed) -> Result<ReplyLists, AllocError>
+        ensures { IfOk result (λ l. HasReplyRoom listed l) }
+    {
+        Ok(ReplyLists {
+            runs: Vec::with_capacity(alloc, listed.reply_numbers as usize)?,
+            bytes: Vec::with_capacity(alloc, listed.reply_bytes as usize)?,
         })
     }
 }
 
 impl Slip {
-    /// A slip with memory for an entry that lists so many numbers and bytes.
-    pub fn make(alloc: Global, at: At, numbers: u32, bytes: u32) -> Result<Slip, NoMemory>
+    /// A slip with memory for an entry that lists at most so much.
+    pub fn make(alloc: Global, at: At, listed: Listed) -> Result<Slip, NoMemory>
         ensures at { IfOk result (λ s. s.at ≡ at) }
-        ensures room { IfOk result (λ s. s.room ≡ record { numbers = numbers; bytes = bytes }) }
+        ensures room { IfOk result (λ s. s.room ≡ listed) }
     {
-        match Room::make(alloc, numbers, bytes) {
+        match Room::make(alloc, listed) {
             Ok(room) => Ok(Slip { at, room }),
             Err(_) => Err(NoMemory),
         }
     }
 
     /// The slip's parts: lists for the entry that the turn keeps, for its copy, and for the answer.
-    pub fn open(self) -> (At, Lists, Lists, Lists)
+    pub fn open(self) -> (At, Lists, Lists, ReplyLists)
         ensures at { result.0 ≡ self.at }
-        ensures own { HasRoom self.room.numbers self.room.bytes result.1 }
-        ensures copy { HasRoom self.room.numbers self.room.bytes result.2 }
-        ensures value { HasRoom self.room.numbers self.room.bytes result.3 }
+        ensures own { HasRoom self.room result.1 }
+        ensures copy { HasRoom self.room result.2 }
+        ensures value { HasReplyRoom self.room result.3 }
     {
         let Slip { at, room } = self;
         let Room {
-            numbers: _,
-            bytes: _,
+            listed: _,
             own,
             copy,
             value,
@@ -110,15 +173,14 @@ impl Slip {
 }
 
 impl Room {
-    fn make(alloc: Global, numbers: u32, bytes: u32) -> Result<Room, AllocError>
-        ensures { IfOk result (λ r. r ≡ record { numbers = numbers; bytes = bytes }) }
+    fn make(alloc: Global, listed: Listed) -> Result<Room, AllocError>
+        ensures { IfOk result (λ r. r ≡ listed) }
     {
         Ok(Room {
-            numbers,
-            bytes,
-            own: Lists::make(alloc, numbers, bytes)?,
-            copy: Lists::make(alloc, numbers, bytes)?,
-            value: Lists::make(alloc, numbers, bytes)?,
+            listed,
+            own: Lists::make(alloc, listed)?,
+            copy: Lists::make(alloc, listed)?,
+            value: ReplyLists::make(alloc, listed)?,
         })
     }
 }

@@ -1,24 +1,14 @@
 -- What is left behind when bytes that were lent out are written.
-use Rattle.std.specs.Prelude.{ℕ, List, Option, Some}
+use Rattle.std.specs.Prelude.{ℕ, List}
 use Rattle.std.specs.Borrow.{Lends, MutBor, Fml, Array, u8}
-use Rattle.phys_frames.specs.Memory.{Run, Memory, with_bytes, with_page, over}
+use Rattle.phys_frames.specs.Memory.{FolioValue, Memory, with_bytes, with_page, over}
 use Rattle.ho_base.specs.declared.numbers.Pfn.{Pfn}
-use Rattle.std.specs.contracts.option.Option as option
-use Rattle.phys_frames.specs.contracts.page.Page as page
 use Rattle.phys_frames.specs.contracts.folio.Folio as folio
 use Rattle.phys_frames.specs.contracts.frames.Frames as frames
 
--- the page ends with the bytes that are left behind r in place of its own
-abbrev pub LendsPage : MutBor (List ℕ) → MutBor (List ℕ) → Fml
-LendsPage p r = Lends page.the_row (Array u8 0) p r (over p.now)
-
 -- the folio ends with the bytes that are left behind r in place of its own, and is the same otherwise
-abbrev pub LendsFolio : MutBor Run → MutBor (List ℕ) → Fml
+abbrev pub LendsFolio : MutBor FolioValue → MutBor (List ℕ) → Fml
 LendsFolio f r = Lends folio.the_row (Array u8 0) f r (λ w. with_bytes f.now (over f.now.bytes w))
-
--- the page that is there ends with the bytes that are left behind r in place of its own
-abbrev pub LendsPlace : MutBor (Option (List ℕ)) → MutBor (List ℕ) → Fml
-LendsPlace p r = Lends (option.the_row page.the_row) (Array u8 0) p r (λ w. Some (over r.now w))
 
 -- the frames end with the bytes that are left behind r in place of those of frame p, and are the same otherwise
 abbrev pub LendsFrame : MutBor Memory → Pfn → MutBor (List ℕ) → Fml

@@ -2,61 +2,40 @@
 
 ghost use Rattle.std.specs.Prelude.{◌≡◌};
 
+use crate::cells::{Base, Deed};
 use std::marker::Model;
 use std::mem::size_of;
 use std::snapshot::Snapshot;
 
-/// The mark of one [`Frames`](crate::Frames), which it keeps for its life. It has no bytes.
-/// Contracts see it as a [`Home`] does.
-#[derive(Drop)]
-pub(crate) struct Seal {
-    mark: Snapshot<u64>,
-    frames: Snapshot<u32>,
-}
-
-impl Model for Seal {
-    ghost use Rattle.phys_frames.specs.Homes.{Place};
-
-    ghost Value = { Place };
-
-    ghost view = { λ s. record { mark = s.mark.value; frames = s.frames.value } };
-}
-
-impl Seal {
-    /// A mark for so many frames. Nothing is said of what it is otherwise, so no caller can show that two
-    /// that were made apart are the same.
-    pub(crate) fn new(frames: u32) -> Seal
-        ensures { result.frames ≡ frames }
-    {
-        Seal {
-            mark: Snapshot::of(&0),
-            frames: Snapshot::of(&frames),
-        }
-    }
-
-    /// The home that this mark stands for.
-    pub(crate) fn home(&self) -> Home
-        ensures { result ≡ self.now }
-    {
-        Home {
-            of: Snapshot::of(self),
-        }
-    }
-}
-
-/// The home of a [`Frames`](crate::Frames) and of the folios that were taken from it. It has no bytes.
-/// Contracts compare it: a folio is of these frames where the homes are equal.
+/// The home of a [`Frames`](crate::Frames) and of the folios that were taken from it: where its region begins, how many
+/// frames it has, and a key that no other `Frames` of that time has. It has no bytes. Contracts compare it: a folio is of
+/// these frames where the homes are equal.
 #[derive(Drop)]
 pub struct Home {
-    of: Snapshot<Seal>,
+    base: Snapshot<Base>,
+    frames: Snapshot<u32>,
+    deed: Snapshot<Deed>,
 }
 
 impl Model for Home {
-    ghost use Rattle.phys_frames.specs.Homes.{Place};
+    ghost use Rattle.phys_frames.specs.Homes.{HomeId};
 
-    ghost Value = { Place };
+    ghost Value = { HomeId };
 
-    ghost view = { λ h. h.of.value };
+    ghost view = { λ h. record { mark = h.base.value.ptr; frames = h.frames.value; key = h.deed.value.key } };
+}
+
+impl Home {
+    /// The home of so many frames, from where their region begins and the right to free it.
+    pub(crate) fn at(base: Base, frames: u32, deed: &Deed) -> Home
+        ensures { result ≡ record { mark = base.ptr; frames = frames; key = deed.now.key } }
+    {
+        Home {
+            base: Snapshot::of(&base),
+            frames: Snapshot::of(&frames),
+            deed: Snapshot::of(deed),
+        }
+    }
 }
 
 const _: () = prove!(size_of::<Home>() == 0);

@@ -1,16 +1,7 @@
-ghost use Rattle.std.specs.Prelude.{◌≡◌, ◌<◌, length, slice_set};
-ghost use Rattle.phys_frames.specs.Memory.{with_bytes};
+ghost use Rattle.std.specs.Prelude.{◌≡◌};
 
 use crate::{Folio, Frames};
 use ho_base::numbers::{Order, Pfn};
-
-/// A caller that writes through `bytes_mut` knows the folio's bytes.
-fn mark(folio: &mut Folio)
-    requires { 0 < length folio.old.bytes }
-    ensures { folio.new ≡ with_bytes folio.old (slice_set folio.old.bytes 0 2) }
-{
-    folio.bytes_mut()[0] = 2;
-}
 
 /// What can move between threads.
 fn moves<T: Send>(value: T) -> T
@@ -20,33 +11,45 @@ fn moves<T: Send>(value: T) -> T
 }
 
 #[test]
-fn bytes_go_out_and_come_home(rt: HostRuntime) {
-    let mut frames = Frames::zeroed(rt.alloc(), 32).expect(&rt, "memory");
-    assert_eq!(rt; frames.count(), 32);
-    let mut folio = frames.take(Pfn(5), Order(0));
-    assert_eq!(rt; folio.first(), Pfn(5));
-    assert_eq!(rt; folio.order(), Order(0));
+fn two_runs_at_once(rt: HostRuntime) {
+    let mut frames = Frames::zeroed(rt.alloc(), 1024).expect(&rt, "memory");
+    let mut low = frames.take(Pfn(0), Order(9));
+    let mut high = frames.take(Pfn(512), Order(9));
+    low.bytes_mut()[2_097_151] = 0xaa;
+    high.bytes_mut()[0] = 0xbb;
     assert!(rt; !frames.all_home());
-    folio.write(4091, b"hello");
-    frames.give(moves(folio));
-    assert_eq!(rt; frames.page(Pfn(5))[4095], b'o');
-    assert_eq!(rt; frames.page(Pfn(5))[4090], 0);
+    frames.give(moves(high));
+    frames.give(moves(low));
+    assert_eq!(rt; frames.page(Pfn(511))[4095], 0xaa);
+    assert_eq!(rt; frames.page(Pfn(511))[4094], 0);
+    assert_eq!(rt; frames.page(Pfn(512))[0], 0xbb);
+    assert_eq!(rt; frames.page(Pfn(512))[1], 0);
     assert!(rt; frames.all_home());
     moves(frames).end();
 }
 
 #[test]
-fn bytes_are_written_in_place(rt: HostRuntime) {
+fn each_call_does_its_work(rt: HostRuntime) {
     let mut frames = Frames::zeroed(rt.alloc(), 32).expect(&rt, "memory");
-    let _home = frames.home();
-    frames.page_mut(Pfn(31))[4095] = 1;
-    let mut folio = frames.take(Pfn(31), Order(0));
-    assert_eq!(rt; folio.bytes()[4095], 1);
-    mark(&mut folio);
-    assert_eq!(rt; folio.bytes()[0], 2);
-    folio.zero();
-    assert_eq!(rt; folio.bytes()[4095], 0);
-    frames.give(folio);
+    let mut other = Frames::zeroed(rt.alloc(), 32).expect(&rt, "memory");
+    frames.apart(&mut other);
+    other.page_mut(Pfn(31))[4095] = 1;
+    assert_eq!(rt; other.page(Pfn(31))[4095], 1);
+    assert_eq!(rt; frames.page(Pfn(31))[4095], 0);
+    assert_eq!(rt; frames.count(), 32);
+    let mut run = frames.take(Pfn(2), Order(1));
+    let mut next = frames.take(Pfn(4), Order(1));
+    run.apart(&mut next);
+    assert_eq!(rt; run.first(), Pfn(2));
+    assert_eq!(rt; run.order(), Order(1));
+    run.write(4094, b"run");
+    assert_eq!(rt; run.bytes()[4096], b'n');
+    run.zero();
+    assert_eq!(rt; run.bytes()[4096], 0);
+    frames.give(run);
+    frames.give(next);
     assert!(rt; frames.all_home());
     frames.end();
+    assert!(rt; other.all_home());
+    other.end();
 }

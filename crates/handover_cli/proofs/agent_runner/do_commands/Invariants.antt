@@ -1,7 +1,7 @@
 use Rattle.std.proofs.Common.{◌≡◌, ◌+◌, take}
-use Rattle.handover_cli.specs.Machine.{no_hands}
+use Rattle.machine_core.specs.Machine.{no_hands}
 use Rattle.handover_cli.specs.Rounds.{HasDone}
-use Rattle.handover_cli.specs.Turns.{IsReady, SameAgent}
+use Rattle.luo_calls.specs.Turns.{IsReady, SameAgent}
 use Rattle.handover_cli.proofs.agent_runner.do_commands.Given as goal
 
 -- the commands so far are done, and the next one's place in history is that of the agent

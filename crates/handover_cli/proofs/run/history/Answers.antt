@@ -9,5 +9,5 @@ returns-in_default-only_work c =
 
 pub returns : goal.returns
 returns c =
-    kept_ok c.run_alone.result _ _ (λ entries h. work_history _ _ _ _ _ _ _ _ c.requires.built c.in-Some.is (sym c.as_slice.ensures) c.in-Some-only_work.ensures.only
+    kept_ok c.run_alone.result _ _ (λ entries h. work_history _ _ _ _ _ _ _ _ c.requires.numbered c.in-Some.is (sym c.as_slice.ensures) c.in-Some-only_work.ensures.only
     c.in_ok-kernel.ensures.number c.in_ok-kernel.ensures.shape c.as_slice-2.ensures h) c.run_alone.ensures

@@ -1,8 +1,0 @@
-use Rattle.handover_cli.proofs.FileSteps.{absent_keeps, absent_is}
-use Rattle.handover_cli.proofs.memfd_file.FileObject.absent.Goals as goal
-
-pub invariant_of-result : goal.invariant_of-result
-invariant_of-result c = rw c.new.ensures.items (absent_keeps c.args.home)
-
-pub returns-clause-absent : goal.returns-clause-absent
-returns-clause-absent c = rw c.new.ensures.items absent_is

@@ -1,0 +1,4 @@
+pub mod Kernels
+pub mod LabelsShown
+pub mod Machine
+pub mod Plain

@@ -1,0 +1,11 @@
+pub mod Chunks
+pub mod Crosses
+pub mod Granted
+pub mod Homes
+pub mod Keys
+pub mod Made
+pub mod Region
+pub mod Runs
+pub mod Sent
+pub mod Sharing
+pub mod Walking

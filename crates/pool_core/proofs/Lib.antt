@@ -1,0 +1,5 @@
+pub mod PoolFrames
+pub mod PoolLists
+pub mod PoolRuns
+pub mod PoolSearch
+pub mod PoolStates

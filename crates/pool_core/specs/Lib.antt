@@ -1,0 +1,2 @@
+pub mod PoolFlags
+pub mod PoolValues

@@ -1,0 +1,99 @@
+-- How flags of single frames show the state of a pool.
+use Rattle.std.specs.Prelude.{◌≡◌, ℕ, ◌<◌, Bool, true, false, not, ◌&&◌, ◌==◌, nat_lt, List, [], ◌∷◌, map, filter, count_by, length, slice_index_or, slice_set}
+use Rattle.std.specs.Prelude.{Option, None, Some}
+use Rattle.std.specs.Option.{IsSome, MatchOption}
+use Rattle.std.specs.List.{list_all, list_any}
+use Rattle.std.specs.FinMap as finmap
+use Rattle.std.specs.FinSet as finset
+use Rattle.ho_base.specs.declared.numbers.Pfn.{Pfn}
+use Rattle.ho_base.specs.ShapeRule.{Layout, in_scratch}
+use Rattle.phys_frames.specs.Homes.{HomeId}
+use Rattle.phys_frames.specs.Memory.{Memory, FolioValue, zero_page}
+use Rattle.ho_events.specs.Lists.{are_distinct, firsts, upto}
+use Rattle.ho_events.specs.Pool.{PoolState}
+use Rattle.ho_events.specs.History.{pool_after}
+use Rattle.ho_events.specs.declared.entry.Entry.{Entry}
+
+-- the flag of a frame; past the last frame none stands
+abbrev pub flag : List Bool → ℕ → Bool
+flag flags p = slice_index_or flags p false
+
+-- the flags with this one at the first frames of some runs
+unfoldable pub with_flags : Bool → List Pfn → List Bool → List Bool
+with_flags b [] flags = flags
+with_flags b (r ∷ runs) flags = with_flags b runs (slice_set flags r.0 b)
+
+-- a machine's frames by their flags: its shape and its home, which frames are owned, and which are pinned
+pub record Flags : Type 0 where
+  pub shape : Layout
+  pub home : HomeId
+  pub owned : List Bool
+  pub marked : List Bool
+
+-- the same with other flags of the owned frames;  of the pinned ones
+abbrev pub with_owned : Flags → List Bool → Flags
+with_owned t owned = record t { owned = owned }
+
+abbrev pub with_marked : Flags → List Bool → Flags
+with_marked t marked = record t { marked = marked }
+
+-- a frame can be taken: it isn't frame 0, nor past the last frame, nor in a scratch area, nor owned
+abbrev pub can_be_taken : Flags → ℕ → Bool
+can_be_taken t p = nat_lt 0 p && nat_lt p t.shape.frames && not (in_scratch t.shape.scratch p) && not (flag t.owned p)
+
+-- the frames below p that can be taken;  how many frames can be taken
+unfoldable pub lowest : Flags → ℕ → List ℕ
+lowest t p = filter (can_be_taken t) (upto p)
+
+unfoldable pub free_count : Flags → ℕ
+free_count t = count_by (can_be_taken t) (upto t.shape.frames)
+
+-- a frame is owned, and it isn't pinned;  it is pinned
+abbrev pub is_loose : Flags → ℕ → Bool
+is_loose t p = flag t.owned p && not (flag t.marked p)
+
+abbrev pub is_held : Flags → ℕ → Bool
+is_held t p = flag t.owned p && flag t.marked p
+
+-- no run stands twice;  a run begins at this frame
+unfoldable pub are_different : List Pfn → Bool
+are_different runs = are_distinct (firsts runs)
+
+unfoldable pub has_run : ℕ → List Pfn → Bool
+has_run p runs = list_any (λ r. r.0 == p) runs
+
+-- each can be taken;  each is owned and not pinned;  each is owned and pinned
+unfoldable pub each_can_be_taken : Flags → List Pfn → Bool
+each_can_be_taken t runs = list_all (λ r. can_be_taken t r.0) runs
+
+unfoldable pub each_is_loose : Flags → List Pfn → Bool
+each_is_loose t runs = list_all (λ r. is_loose t r.0) runs
+
+unfoldable pub each_is_held : Flags → List Pfn → Bool
+each_is_held t runs = list_all (λ r. is_held t r.0) runs
+
+-- the frames and the flags are as many as the shape says, and a frame that isn't owned is home
+pub record KeepsFlags (shape : Layout) (frames : Memory) (owned marked : List Bool) : Type 0 where
+  pub pages : length frames.pages ≡ shape.frames
+  pub places : frames.home.frames ≡ shape.frames
+  pub owned_len : length owned ≡ shape.frames
+  pub marked_len : length marked ≡ shape.frames
+  pub home : (p : ℕ) → p < shape.frames → flag owned p ≡ false → IsSome (slice_index_or frames.pages p None)
+
+-- the order at which a single frame is owned
+abbrev pub order_of : Bool → Option ℕ
+order_of true = Some 0
+order_of false = None
+
+-- the flags show a state: a frame's run is owned at order 0 exactly where its flag says so, at another order
+-- nowhere; and a frame is pinned exactly where its flag says so
+pub record Shows (t : Flags) (s : PoolState) : Type 0 where
+  pub shape : s.shape ≡ t.shape
+  pub owned : (p : ℕ) → finmap.get s.owned p ≡ order_of (flag t.owned p)
+  pub pinned : (p : ℕ) → finset.contains s.pinned p ≡ flag t.marked p
+
+-- the history is a run of the pool's steps to a state that the flags show
+pub record KeepsPool (t : Flags) (history : List Entry) : Type 0 where
+  pub run : MatchOption (pool_after t.shape history) ⊥ (Shows t)
+  pub owned : length t.owned ≡ t.shape.frames
+  pub marked : length t.marked ≡ t.shape.frames

@@ -1,0 +1,4 @@
+pub mod FirstOf
+pub mod RegistryAnswers
+pub mod RegistryRuns
+pub mod RegistrySteps

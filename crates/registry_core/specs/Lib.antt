@@ -1,0 +1,3 @@
+pub mod Registries
+pub mod RegistryShown
+pub mod RegistryValues

@@ -1,0 +1,14 @@
+-- What contracts see of the registry.
+use Rattle.std.specs.Prelude.{ℕ, List, MatchOption}
+use Rattle.ho_events.specs.declared.entry.Entry.{Entry}
+use Rattle.ho_events.specs.Registry.{RegistryState}
+use Rattle.ho_events.specs.History.{registry_after}
+
+-- the registry: its history, and how many more entries there is room for
+pub record RegistryValue : Type 0 where
+  pub history : List Entry
+  pub room : ℕ
+
+-- the registry is in a state of which a fact holds: its history is a run of its steps to that state
+abbrev pub RegistryIs : RegistryValue → (RegistryState → Type 0) → Type 0
+RegistryIs r P = MatchOption (registry_after r.history) ⊥ P

@@ -1,0 +1,6 @@
+//! The registry: which names have which session slots, and which file numbers are in use, with the history of that.
+#![tactic(auto)]
+
+mod registry;
+
+pub use registry::Registry;

@@ -1,0 +1,3 @@
+pub mod BlobPages
+pub mod EarlyFrames
+pub mod HandoffRule

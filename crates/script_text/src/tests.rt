@@ -1,0 +1,203 @@
+//! Scripts that are read, and why lines are refused.
+
+use crate::{Reason, ScriptError, read};
+use ho_base::numbers::AgentNo;
+use ho_events::command::Command;
+use ho_events::script::Block;
+use std::alloc::{AllocError, Global};
+use std::test::Fail;
+
+/// The head of a fresh script, up to its first agent: four lines.
+const HEAD: &str = "machine 64\nscratch 1 8\nround\nagent a\n";
+
+/// The first refused line of a text and why; none where it is read.
+fn refusal(alloc: Global, text: &str, fresh: bool) -> Option<(u32, Reason)> {
+    if text.len() >= u32::MAX as usize {
+        return None;
+    }
+    match read(alloc, text.as_bytes(), fresh) {
+        Err(ScriptError::Bad { line, reason }) => Some((line, reason)),
+        Err(ScriptError::Memory) => Some((0, Reason::End)),
+        Ok(_) => None,
+    }
+}
+
+#[test]
+fn gives_the_first_reason_of_a_head(rt: HostRuntime) -> Result<(), Fail> {
+    let texts = [
+        ("", Some((1, Reason::End))),
+        ("# only\n\n# comments", Some((4, Reason::End))),
+        ("machine 64", Some((2, Reason::End))),
+        ("machine 32\nscratch 1 1", None),
+        (
+            "# first\n\n \t \n  machine\t\t00000000000000000064  \nscratch 1 8\nscratch 9 8\nround\n",
+            None,
+        ),
+        ("# \x7f", Some((1, Reason::Byte))),
+        ("machine 64\r\nscratch 1 8", Some((1, Reason::Byte))),
+        ("Machine 64", Some((1, Reason::Word))),
+        ("machine 64 64", Some((1, Reason::Count))),
+        ("machine 31", Some((1, Reason::Number))),
+        ("machine 000000000000000000064", Some((1, Reason::Number))),
+        ("machine 18446744073709551648", Some((1, Reason::Number))),
+        ("scratch 1 8", Some((1, Reason::Place))),
+        ("machine 64\nmachine 64", Some((2, Reason::Place))),
+        ("machine 64\nround", Some((2, Reason::Place))),
+        (
+            "machine 64\nscratch 1 1\nscratch 2 1\nscratch 3 1\nscratch 4 1\nscratch 5 1",
+            Some((6, Reason::Place)),
+        ),
+        ("machine 64\nscratch 0 8", Some((2, Reason::Shape))),
+        (
+            "machine 64\nscratch 1 8\nscratch 8 8",
+            Some((3, Reason::Shape)),
+        ),
+        (
+            "machine 64\nscratch 1 8\nround\nround",
+            Some((4, Reason::Later)),
+        ),
+        (
+            "machine 64\nscratch 1 8\nkexec 1 4",
+            Some((3, Reason::Later)),
+        ),
+        (
+            "machine 64\nscratch 1 8\nfail 0 dev0 freeze",
+            Some((3, Reason::Later)),
+        ),
+        (
+            "machine 64\nscratch 1 8\nround\nagent a/b",
+            Some((4, Reason::Name)),
+        ),
+        (
+            "machine 64\nscratch 1 8\nround\nmemfd m 0",
+            Some((4, Reason::Place)),
+        ),
+    ];
+    for (text, expected) in texts {
+        assert_eq!(rt; refusal(rt.alloc(), text, true), expected, "at {text}");
+    }
+    let resumed = [
+        ("", None),
+        ("round\nagent a\ncreate s", None),
+        ("machine 64", Some((1, Reason::Place))),
+        ("scratch 1 8", Some((1, Reason::Place))),
+    ];
+    for (text, expected) in resumed {
+        assert_eq!(rt; refusal(rt.alloc(), text, false), expected, "at {text}");
+    }
+    Ok(())
+}
+
+#[test]
+fn gives_the_first_reason_of_a_command(rt: HostRuntime) -> Result<(), Fail> {
+    let texts = [
+        (
+            "memfd m 0\nwrite m 4094 fFaA\npreserve s 18446744073709551615 m\ncreate s\nclose s\nclose s",
+            None,
+        ),
+        ("agent b", Some((5, Reason::Later))),
+        ("agent a", Some((5, Reason::Place))),
+        ("memfd m 1", Some((5, Reason::Later))),
+        ("memfd m 10", Some((5, Reason::Number))),
+        ("memfd m/ 10", Some((5, Reason::Name))),
+        ("memfd m", Some((5, Reason::Count))),
+        ("memfd m 0\nmemfd n 0", Some((6, Reason::Later))),
+        ("memfd m 0\nmemfd m 1", Some((6, Reason::Label))),
+        ("write m 0 68", Some((5, Reason::Later))),
+        ("memfd m 0\nwrite m 0 6", Some((6, Reason::Hex))),
+        ("memfd m 0\nwrite m 0 6g", Some((6, Reason::Hex))),
+        (
+            "memfd m 0\nwrite m 4294967296 6g",
+            Some((6, Reason::Number)),
+        ),
+        ("memfd m 0\nwrite m 4095 6868", Some((6, Reason::Later))),
+        ("create s\ncreate t", Some((6, Reason::Later))),
+        ("preserve s 7 m", Some((5, Reason::Later))),
+        (
+            "preserve s 18446744073709551616 m/",
+            Some((5, Reason::Number)),
+        ),
+        (
+            "preserve s 18446744073709551615 m/",
+            Some((5, Reason::Name)),
+        ),
+        (
+            "memfd m 0\npreserve s 7 m\nwrite m 0 68",
+            Some((7, Reason::Later)),
+        ),
+        (
+            "memfd m 0\npreserve s 7 m\npreserve s 8 m",
+            Some((7, Reason::Later)),
+        ),
+        ("tell", Some((5, Reason::Later))),
+        (
+            "create nnnnnnnnnnnnnnnnnnnnnnnnnnnnnnnnnnnnnnnnnnnnnnnnnnnnnnnnnnnnnnnn",
+            Some((5, Reason::Name)),
+        ),
+    ];
+    for (text, expected) in texts {
+        let whole = format!(in rt.alloc(); "{HEAD}{text}")?;
+        assert_eq!(rt;
+            refusal(rt.alloc(), whole.as_str(), true),
+            expected,
+            "at {text}"
+        );
+    }
+    Ok(())
+}
+
+#[test]
+fn reads_the_first_path(rt: HostRuntime) -> Result<(), Fail> {
+    let text =
+        b"machine 64\nscratch 1 8\nround\nagent a\nmemfd m 0\nwrite m 0 68656c6c6f\ncreate s\npreserve s 7 m\nclose s";
+    let Ok(script) = read(rt.alloc(), text, true) else {
+        assert!(rt; false, "the first path is refused");
+        return Ok(());
+    };
+    let frames = script.shape.as_ref().map(|shape| shape.frames());
+    assert_eq!(rt; frames, Some(64));
+    assert_eq!(rt; script.agents.len(), 1);
+    assert_eq!(rt; script.blocks.len(), 1);
+    for block in script.blocks.as_slice() {
+        let Block::Round(works) = block else {
+            assert!(rt; false, "the block is no round");
+            return Ok(());
+        };
+        assert_eq!(rt; works.len(), 1);
+        for work in works.as_slice() {
+            assert_eq!(rt; work.agent, AgentNo(1));
+            assert_eq!(rt; work.first, 1);
+            assert_eq!(rt; work.commands.len(), 5);
+            for command in work.commands.as_slice() {
+                if let Command::Write(label, offset, bytes) = command {
+                    assert_eq!(rt; label.as_bytes(), b"m".as_slice());
+                    assert_eq!(rt; *offset, 0);
+                    assert_eq!(rt; bytes.as_slice(), b"hello".as_slice());
+                }
+            }
+        }
+    }
+    Ok(())
+}
+
+/// A head with commands `close s`, so many of them.
+fn with_closes(alloc: Global, times: u32) -> Result<String, AllocError> {
+    let mut text = String::from_str(alloc, HEAD)?;
+    for _ in 0..times {
+        text.push_str("close s\n")?;
+    }
+    Ok(text)
+}
+
+#[test]
+fn reads_4096_commands_and_no_more(rt: HostRuntime) -> Result<(), Fail> {
+    for (times, expected) in [(4096, None), (4097, Some((4101, Reason::Limit)))] {
+        let text = with_closes(rt.alloc(), times)?;
+        assert_eq!(rt;
+            refusal(rt.alloc(), text.as_str(), true),
+            expected,
+            "at {times}"
+        );
+    }
+    Ok(())
+}

@@ -1,0 +1,3 @@
+pub mod SessionAdds
+pub mod Sessions
+pub mod Tokens

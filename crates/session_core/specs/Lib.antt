@@ -1,0 +1,3 @@
+pub mod SessionShown
+pub mod SessionValues
+pub mod Sessions

@@ -1,0 +1,6 @@
+//! Session slots: a named container of files under tokens, with the history of all turns on it.
+#![tactic(auto)]
+
+mod session;
+
+pub use session::SessionObject;

@@ -1,0 +1,14 @@
+pub mod Lists
+pub mod Parity
+pub mod Adds
+pub mod Tries
+pub mod Ends
+pub mod Splits
+pub mod Pulls
+pub mod Outs
+pub mod Numbers
+pub mod Handed
+pub mod Opens
+pub mod Shelves
+pub mod Booked
+pub mod Sharing
