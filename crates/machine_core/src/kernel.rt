@@ -7,6 +7,7 @@ ghost use Rattle.ho_base.specs.Objects.{session_no, file_no};
 ghost use Rattle.phys_frames.specs.Memory.{AllHome, AreOf};
 ghost use Rattle.machine_core.specs.Kernels.{AreBuilt, IsBuilt, IsLeft};
 ghost use Rattle.machine_core.specs.Plain.{object_count};
+ghost use Rattle.machine_core.specs.Starts.{starts};
 
 use crate::object::Object;
 use crate::plain::put_back;
@@ -136,9 +137,10 @@ fn frames_of(shape: &Shape) -> u32
     shape.frames()
 }
 
-/// A pool of frames of zeros with no history.
+/// A pool of frames of zeros that begins cold, with no history.
 #[tactic(auto, using(crate::proofs::Kernels::all_home, crate::proofs::Kernels::as_many))]
 fn cold_pool(alloc: Global, shape: Shape) -> Result<Pool, NoMemory>
+    ensures start { IfOk result (λ p. p.start ≡ (starts shape).pool) }
     ensures history { IfOk result (λ p. p.history ≡ []) }
     ensures shape { IfOk result (λ p. p.shape ≡ shape) }
 {
@@ -164,6 +166,7 @@ fn with_objects(
     mut objects: Vec<Option<Object>>,
 ) -> Kernel
     requires shape { pool.shape ≡ shape.value }
+    requires start { pool.start ≡ (starts shape.value).pool }
     requires pool { pool.history ≡ [] }
     requires registry { registry.history ≡ [] }
     requires empty { objects.items ≡ [] }

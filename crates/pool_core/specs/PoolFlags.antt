@@ -3,6 +3,7 @@ use Rattle.std.specs.Prelude.{◌≡◌, ℕ, ◌<◌, Bool, true, false, not, �
 use Rattle.std.specs.Prelude.{Option, None, Some}
 use Rattle.std.specs.Option.{IsSome, MatchOption}
 use Rattle.std.specs.List.{list_all, list_any}
+use Rattle.std.specs.Ordering.{nat_cmp}
 use Rattle.std.specs.FinMap as finmap
 use Rattle.std.specs.FinSet as finset
 use Rattle.ho_base.specs.declared.numbers.Pfn.{Pfn}
@@ -10,8 +11,9 @@ use Rattle.ho_base.specs.ShapeRule.{Layout, in_scratch}
 use Rattle.phys_frames.specs.Homes.{HomeId}
 use Rattle.phys_frames.specs.Memory.{Memory, FolioValue, zero_page}
 use Rattle.ho_events.specs.Lists.{are_distinct, firsts, upto}
-use Rattle.ho_events.specs.Pool.{PoolState}
-use Rattle.ho_events.specs.History.{pool_after}
+use Rattle.ho_base.specs.declared.numbers.Order.{Order}
+use Rattle.ho_events.specs.Pool.{PoolState, with_frames}
+use Rattle.ho_events.specs.History.{pool_from}
 use Rattle.ho_events.specs.declared.entry.Entry.{Entry}
 
 -- the flag of a frame; past the last frame none stands
@@ -92,8 +94,20 @@ pub record Shows (t : Flags) (s : PoolState) : Type 0 where
   pub owned : (p : ℕ) → finmap.get s.owned p ≡ order_of (flag t.owned p)
   pub pinned : (p : ℕ) → finset.contains s.pinned p ≡ flag t.marked p
 
--- the history is a run of the pool's steps to a state that the flags show
-pub record KeepsPool (t : Flags) (history : List Entry) : Type 0 where
-  pub run : MatchOption (pool_after t.shape history) ⊥ (Shows t)
+-- the state before any entry of a machine of this shape, of which these runs are owned and these frames are pinned
+unfoldable pub owned_at : List (Pfn × Order) → finmap.FinMap nat_cmp ℕ → finmap.FinMap nat_cmp ℕ
+owned_at [] owned = owned
+owned_at (r ∷ runs) owned = owned_at runs (finmap.insert owned r.0.0 r.1.0)
+
+unfoldable pub opened : Layout → List (Pfn × Order) → List Pfn → PoolState
+opened shape runs frames = record {
+  shape = shape;
+  owned = owned_at runs finmap.empty;
+  pinned = with_frames (firsts frames) finset.empty;
+}
+
+-- the history is a run of the pool's steps from its start to a state that the flags show
+pub record KeepsPool (t : Flags) (start : PoolState) (history : List Entry) : Type 0 where
+  pub run : MatchOption (pool_from start history) ⊥ (Shows t)
   pub owned : length t.owned ≡ t.shape.frames
   pub marked : length t.marked ≡ t.shape.frames

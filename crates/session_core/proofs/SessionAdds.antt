@@ -12,7 +12,7 @@ use Rattle.ho_base.specs.declared.limits.TheConstants.{SESSION_FILES}
 use Rattle.ho_base.specs.declared.numbers.Token.{Token}
 use Rattle.ho_base.specs.declared.numbers.FileNo.{FileNo}
 use Rattle.ho_events.specs.Session.{SessionState, Free, Out, In, Listed, is_out, files_of, admits, with_file, add_step, session_step}
-use Rattle.ho_events.specs.History.{session_after}
+use Rattle.ho_events.specs.History.{session_from}
 use Rattle.ho_events.specs.declared.entry.Entry.{Entry}
 use Rattle.ho_events.specs.declared.event.Event.TheVariants.{SessionAdd}
 use Rattle.ho_events.specs.declared.reply.Reply.{Reply}
@@ -129,12 +129,12 @@ nothing_admitted : (files : List (Token × FileNo × ℕ)) → (name : List ℕ)
 unfolding shown
 nothing_admitted files name token h = cc
 
-pub list_keeps : (h : List Entry) → (e : Entry) → (n : Option (List ℕ)) → (files : List (Token × FileNo × ℕ)) → (name : List ℕ) → (token : Token) → (file : FileNo) → (handle : ℕ) → KeepsSession h n files → MatchOption (session_after h) ⊥ (λ s. IsTrue (admits s name token.0)) → e.event ≡ SessionAdd name token file handle → e.reply ≡ Ok → KeepsSession (h ++ e ∷ []) n (insert files (smaller token.0 files) (token, file, handle))
-list_keeps h e None files name token file handle k is event reply =
-    absurd (nothing_admitted files name token.0 (at_shown h None files (λ s. IsTrue (admits s name token.0)) k is))
-list_keeps h e (Some own) files name token file handle k is event reply =
-    let a : IsTrue (admits (shown (Some own) files) name token.0) = at_shown h (Some own) files (λ s. IsTrue (admits s name token.0)) k is in
+pub list_keeps : (start : SessionState) → (h : List Entry) → (e : Entry) → (n : Option (List ℕ)) → (files : List (Token × FileNo × ℕ)) → (name : List ℕ) → (token : Token) → (file : FileNo) → (handle : ℕ) → KeepsSession start h n files → MatchOption (session_from start h) ⊥ (λ s. IsTrue (admits s name token.0)) → e.event ≡ SessionAdd name token file handle → e.reply ≡ Ok → KeepsSession start (h ++ e ∷ []) n (insert files (smaller token.0 files) (token, file, handle))
+list_keeps start h e None files name token file handle k is event reply =
+    absurd (nothing_admitted files name token.0 (at_shown start h None files (λ s. IsTrue (admits s name token.0)) k is))
+list_keeps start h e (Some own) files name token file handle k is event reply =
+    let a : IsTrue (admits (shown (Some own) files) name token.0) = at_shown start h (Some own) files (λ s. IsTrue (admits s name token.0)) k is in
     let new : has_token token.0 files ≡ false = taken_at own files name token.0 a k.rising in
-    turn_keeps h e (Some own) (Some own) files _ k
+    turn_keeps start h e (Some own) (Some own) files _ k
     (rw (event, reply) (step_of_add _ name token file handle Ok ∙ only_true _ _ a ∙ ap Some (with_shown own files (token, file, handle) k.rising new)))
     (still_rising files (token, file, handle) k.rising new) tt

@@ -13,7 +13,7 @@ use Rattle.ho_base.specs.declared.numbers.FileNo.{FileNo}
 use Rattle.ho_events.specs.Lists.{only}
 use Rattle.ho_events.specs.Session.{SessionState, Free, Out, In, Listed, is_out, files_of, admits, session_step}
 use Rattle.ho_events.specs.Sequences.{reference_of, session_content, OfFiles}
-use Rattle.ho_events.specs.History.{run_from, then_entry, session_after}
+use Rattle.ho_events.specs.History.{run_from, then_entry, session_from}
 use Rattle.ho_events.specs.declared.entry.Entry.{Entry}
 use Rattle.ho_events.specs.declared.event.Event.TheVariants.{SessionBegin, SessionClose}
 use Rattle.ho_events.specs.declared.reply.Reply.{Reply}
@@ -23,13 +23,13 @@ use Rattle.ho_events.proofs.Runs.{run_push}
 use Rattle.session_core.specs.Sessions.{IsFree, name_of, refusal_by, refusal_of, close_answer}
 use Rattle.session_core.specs.SessionShown.{listed, reference, TokensRise, has_token, is_named, shown, ListsNothingIfFree, KeepsSession}
 
--- a slot without entries is free
-pub free_keeps : KeepsSession [] None []
+-- a slot without entries that begins free is free
+pub free_keeps : KeepsSession Free [] None []
 unfolding run_from shown
 free_keeps = record { replayed = refl; rising = refl; free = refl }
 
-pub keeps_run : (h : List Entry) → (n : Option (List ℕ)) → (files : List (Token × FileNo × ℕ)) → KeepsSession h n files → IsTrue (is_some (session_after h))
-keeps_run h n files k = rw k.replayed refl
+pub keeps_run : (start : SessionState) → (h : List Entry) → (n : Option (List ℕ)) → (files : List (Token × FileNo × ℕ)) → KeepsSession start h n files → IsTrue (is_some (session_from start h))
+keeps_run start h n files k = rw k.replayed refl
 
 -- what a shown state is
 pub name_shown : (n : Option (List ℕ)) → (files : List (Token × FileNo × ℕ)) → name_of (shown n files) ≡ n
@@ -103,8 +103,8 @@ admits_by a n taken = subst (λ b. (refusal_by a (nat_le SESSION_FILES n) taken 
 admits_iff : (s : SessionState) → (name : List ℕ) → (token : ℕ) → (refusal_of s name token ≡ None) ↔ IsTrue (admits s name token)
 admits_iff s name token = admits_by (is_out s name) (finmap.len (files_of s)) (finmap.contains_key (files_of s) token)
 
-pub admits_told : (h : List Entry) → (n : Option (List ℕ)) → (files : List (Token × FileNo × ℕ)) → (name : List ℕ) → (token : ℕ) → (told : Option Reply) → KeepsSession h n files → told ≡ refusal_by (is_named n name) (nat_le SESSION_FILES (length files)) (has_token token files) → MatchOption (session_after h) ⊥ (λ s. (told ≡ None) ↔ IsTrue (admits s name token))
-admits_told h n files name token told k is =
+pub admits_told : (start : SessionState) → (h : List Entry) → (n : Option (List ℕ)) → (files : List (Token × FileNo × ℕ)) → (name : List ℕ) → (token : ℕ) → (told : Option Reply) → KeepsSession start h n files → told ≡ refusal_by (is_named n name) (nat_le SESSION_FILES (length files)) (has_token token files) → MatchOption (session_from start h) ⊥ (λ s. (told ≡ None) ↔ IsTrue (admits s name token))
+admits_told start h n files name token told k is =
     subst (λ o. MatchOption o ⊥ (λ s. (told ≡ None) ↔ IsTrue (admits s name token))) (sym k.replayed)
     (subst (λ r. (r ≡ None) ↔ IsTrue (admits (shown n files) name token)) (refusal_kept n files name token k.rising k.free ∙ sym is)
     (admits_iff (shown n files) name token))
@@ -114,23 +114,23 @@ references : (files : List (Token × FileNo × ℕ)) → map reference_of (map l
 references [] = refl
 references (f ∷ files) = ap (λ rest. reference f ∷ rest) (references files)
 
-pub content_kept : (h : List Entry) → (n : Option (List ℕ)) → (files : List (Token × FileNo × ℕ)) → KeepsSession h n files → session_content (session_after h) ≡ OfFiles (map reference files)
-content_kept h n files k = ap session_content k.replayed ∙ ap (λ es. OfFiles (map reference_of es)) (entries_shown n files k.rising k.free) ∙ ap OfFiles (references files)
+pub content_kept : (start : SessionState) → (h : List Entry) → (n : Option (List ℕ)) → (files : List (Token × FileNo × ℕ)) → KeepsSession start h n files → session_content (session_from start h) ≡ OfFiles (map reference files)
+content_kept start h n files k = ap session_content k.replayed ∙ ap (λ es. OfFiles (map reference_of es)) (entries_shown n files k.rising k.free) ∙ ap OfFiles (references files)
 
 -- a turn, by the step that it takes
-pub turn_keeps : (h : List Entry) → (e : Entry) → (n n2 : Option (List ℕ)) → (files files2 : List (Token × FileNo × ℕ)) → KeepsSession h n files → session_step (shown n files) e.event e.reply ≡ Some (shown n2 files2) → TokensRise files2 → ListsNothingIfFree n2 files2 → KeepsSession (h ++ e ∷ []) n2 files2
-turn_keeps h e n n2 files files2 k step rise free = record {
-  replayed = run_push session_step (Some Free) h e ∙ ap (λ s. then_entry session_step s e) k.replayed ∙ step;
+pub turn_keeps : (start : SessionState) → (h : List Entry) → (e : Entry) → (n n2 : Option (List ℕ)) → (files files2 : List (Token × FileNo × ℕ)) → KeepsSession start h n files → session_step (shown n files) e.event e.reply ≡ Some (shown n2 files2) → TokensRise files2 → ListsNothingIfFree n2 files2 → KeepsSession start (h ++ e ∷ []) n2 files2
+turn_keeps start h e n n2 files files2 k step rise free = record {
+  replayed = run_push session_step (Some start) h e ∙ ap (λ s. then_entry session_step s e) k.replayed ∙ step;
   rising = rise;
   free = free;
 }
 
 -- a fact of the state that the history leads to, at the parts
-pub at_shown : (h : List Entry) → (n : Option (List ℕ)) → (files : List (Token × FileNo × ℕ)) → (P : SessionState → Type 0) → KeepsSession h n files → MatchOption (session_after h) ⊥ P → P (shown n files)
-at_shown h n files P k is = subst (λ s. MatchOption s ⊥ P) k.replayed is
+pub at_shown : (start : SessionState) → (h : List Entry) → (n : Option (List ℕ)) → (files : List (Token × FileNo × ℕ)) → (P : SessionState → Type 0) → KeepsSession start h n files → MatchOption (session_from start h) ⊥ P → P (shown n files)
+at_shown start h n files P k is = subst (λ s. MatchOption s ⊥ P) k.replayed is
 
-pub stay_keeps : (h : List Entry) → (e : Entry) → (n : Option (List ℕ)) → (files : List (Token × FileNo × ℕ)) → KeepsSession h n files → MatchOption (session_after h) ⊥ (λ s. session_step s e.event e.reply ≡ Some s) → KeepsSession (h ++ e ∷ []) n files
-stay_keeps h e n files k stays = turn_keeps h e n n files files k (at_shown h n files (λ s. session_step s e.event e.reply ≡ Some s) k stays) k.rising k.free
+pub stay_keeps : (start : SessionState) → (h : List Entry) → (e : Entry) → (n : Option (List ℕ)) → (files : List (Token × FileNo × ℕ)) → KeepsSession start h n files → MatchOption (session_from start h) ⊥ (λ s. session_step s e.event e.reply ≡ Some s) → KeepsSession start (h ++ e ∷ []) n files
+stay_keeps start h e n files k stays = turn_keeps start h e n n files files k (at_shown start h n files (λ s. session_step s e.event e.reply ≡ Some s) k stays) k.rising k.free
 
 nothing_listed : finmap.from_sorted {R = nat_cmp} (map listed []) ≡ finmap.empty
 nothing_listed = finmap.same_entries_map _ _ (finmap.entries-from_sorted nat_cmp [] tt ∙ sym entries_none)
@@ -140,13 +140,13 @@ unfolding shown
 begin_step None files name h free = rw (free, nothing_listed)
 begin_step (Some own) files name h free = absurd cc
 
-pub begin_keeps : (h : List Entry) → (e : Entry) → (n : Option (List ℕ)) → (files : List (Token × FileNo × ℕ)) → (name : List ℕ) → KeepsSession h n files → MatchOption (session_after h) ⊥ IsFree → e.event ≡ SessionBegin name → e.reply ≡ Ok → KeepsSession (h ++ e ∷ []) (Some name) files
-begin_keeps h e n files name k is event reply =
-    turn_keeps h e n (Some name) files files k
-    (rw (event, reply) (begin_step n files name (at_shown h n files IsFree k is) k.free)) k.rising tt
+pub begin_keeps : (start : SessionState) → (h : List Entry) → (e : Entry) → (n : Option (List ℕ)) → (files : List (Token × FileNo × ℕ)) → (name : List ℕ) → KeepsSession start h n files → MatchOption (session_from start h) ⊥ IsFree → e.event ≡ SessionBegin name → e.reply ≡ Ok → KeepsSession start (h ++ e ∷ []) (Some name) files
+begin_keeps start h e n files name k is event reply =
+    turn_keeps start h e n (Some name) files files k
+    (rw (event, reply) (begin_step n files name (at_shown start h n files IsFree k is) k.free)) k.rising tt
 
-pub begin_run : (h : List Entry) → (e : Entry) → (n : Option (List ℕ)) → (files : List (Token × FileNo × ℕ)) → (name : List ℕ) → KeepsSession h n files → MatchOption (session_after h) ⊥ IsFree → e.event ≡ SessionBegin name → e.reply ≡ Ok → IsTrue (is_some (session_after (h ++ e ∷ [])))
-begin_run h e n files name k is event reply = keeps_run _ _ _ (begin_keeps h e n files name k is event reply)
+pub begin_run : (start : SessionState) → (h : List Entry) → (e : Entry) → (n : Option (List ℕ)) → (files : List (Token × FileNo × ℕ)) → (name : List ℕ) → KeepsSession start h n files → MatchOption (session_from start h) ⊥ IsFree → e.event ≡ SessionBegin name → e.reply ≡ Ok → IsTrue (is_some (session_from start (h ++ e ∷ [])))
+begin_run start h e n files name k is event reply = keeps_run _ _ _ _ (begin_keeps start h e n files name k is event reply)
 
 close_ok : (s : SessionState) → (name : List ℕ) → IsTrue (is_out s name) → session_step s (SessionClose name) Ok ≡ Some Free
 close_ok Free name h = cc
@@ -158,17 +158,17 @@ close_refused Free name h = refl
 close_refused (Out own files) name h = rw h refl
 close_refused (In own opened files) name h = refl
 
-free_none : (files : List (Token × FileNo × ℕ)) → shown None files ≡ Free
+pub free_none : (files : List (Token × FileNo × ℕ)) → shown None files ≡ Free
 unfolding shown
 free_none files = refl
 
-pub end_keeps : (h : List Entry) → (e : Entry) → (n : Option (List ℕ)) → (files : List (Token × FileNo × ℕ)) → (name : List ℕ) → KeepsSession h n files → MatchOption (session_after h) ⊥ (λ s. IsTrue (is_out s name)) → e.event ≡ SessionClose name → e.reply ≡ Ok → KeepsSession (h ++ e ∷ []) None []
-end_keeps h e n files name k is event reply =
-    turn_keeps h e n None files [] k
-    (rw (event, reply) (close_ok (shown n files) name (at_shown h n files (λ s. IsTrue (is_out s name)) k is) ∙ ap Some (sym (free_none [])))) refl refl
+pub end_keeps : (start : SessionState) → (h : List Entry) → (e : Entry) → (n : Option (List ℕ)) → (files : List (Token × FileNo × ℕ)) → (name : List ℕ) → KeepsSession start h n files → MatchOption (session_from start h) ⊥ (λ s. IsTrue (is_out s name)) → e.event ≡ SessionClose name → e.reply ≡ Ok → KeepsSession start (h ++ e ∷ []) None []
+end_keeps start h e n files name k is event reply =
+    turn_keeps start h e n None files [] k
+    (rw (event, reply) (close_ok (shown n files) name (at_shown start h n files (λ s. IsTrue (is_out s name)) k is) ∙ ap Some (sym (free_none [])))) refl refl
 
-pub end_run : (h : List Entry) → (e : Entry) → (n : Option (List ℕ)) → (files : List (Token × FileNo × ℕ)) → (name : List ℕ) → KeepsSession h n files → MatchOption (session_after h) ⊥ (λ s. IsTrue (is_out s name)) → e.event ≡ SessionClose name → e.reply ≡ Ok → IsTrue (is_some (session_after (h ++ e ∷ [])))
-end_run h e n files name k is event reply = keeps_run _ _ _ (end_keeps h e n files name k is event reply)
+pub end_run : (start : SessionState) → (h : List Entry) → (e : Entry) → (n : Option (List ℕ)) → (files : List (Token × FileNo × ℕ)) → (name : List ℕ) → KeepsSession start h n files → MatchOption (session_from start h) ⊥ (λ s. IsTrue (is_out s name)) → e.event ≡ SessionClose name → e.reply ≡ Ok → IsTrue (is_some (session_from start (h ++ e ∷ [])))
+end_run start h e n files name k is event reply = keeps_run _ _ _ _ (end_keeps start h e n files name k is event reply)
 
 -- ending where it isn't the session of the name;  what is answered
 pub close_stays : (o : Option SessionState) → (name : List ℕ) → (out : Bool) → MatchOption o ⊥ (λ s. out ≡ is_out s name) → out ≡ false → MatchOption o ⊥ (λ s. session_step s (SessionClose name) NoSession ≡ Some s)

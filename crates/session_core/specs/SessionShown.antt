@@ -9,7 +9,7 @@ use Rattle.ho_base.specs.declared.numbers.FileNo.{FileNo}
 use Rattle.ho_events.specs.Lists.{same_bytes}
 use Rattle.ho_events.specs.Session.{SessionState, Free, Out, Listed}
 use Rattle.ho_events.specs.Sequences.{Reference}
-use Rattle.ho_events.specs.History.{session_after}
+use Rattle.ho_events.specs.History.{session_from}
 use Rattle.ho_events.specs.declared.entry.Entry.{Entry}
 
 -- a file by its token, as the state of an outgoing session lists it: it was not taken
@@ -48,8 +48,8 @@ abbrev pub ListsNothingIfFree : Option (List ℕ) → List (Token × FileNo × �
 ListsNothingIfFree None files = files ≡ []
 ListsNothingIfFree (Some name) files = Unit {0}
 
--- the history is a run to the state that the parts show
-pub record KeepsSession (history : List Entry) (name : Option (List ℕ)) (files : List (Token × FileNo × ℕ)) : Type 0 where
-  pub replayed : session_after history ≡ Some (shown name files)
+-- the history is a run from the start to the state that the parts show
+pub record KeepsSession (start : SessionState) (history : List Entry) (name : Option (List ℕ)) (files : List (Token × FileNo × ℕ)) : Type 0 where
+  pub replayed : session_from start history ≡ Some (shown name files)
   pub rising : TokensRise files
   pub free : ListsNothingIfFree name files

@@ -2,12 +2,12 @@
 
 ghost use Rattle.std.specs.Prelude.{◌≡◌, ◌+◌, ◌<◌, ◌≤◌, ◌^◌, ◌↔◌, ◌++◌, ◌∷◌, [], None, OnOk, IfSome, IsTrue, is_some, length, map, nat_le};
 ghost use Rattle.ho_base.specs.declared.limits.TheConstants.{SESSION_FILES};
-ghost use Rattle.ho_events.specs.History.{last_stamp, session_after};
+ghost use Rattle.ho_events.specs.History.{last_stamp, session_from};
 ghost use Rattle.ho_events.specs.Sequences.{object_at, session_content, OfFiles};
 ghost use Rattle.ho_events.specs.Slips.{entry_at};
 ghost use Rattle.ho_events.specs.declared.event.Event.TheVariants.{SessionBegin, SessionAdd, SessionClose};
 ghost use Rattle.ho_events.specs.declared.reply.Reply.TheVariants.{Ok, NoSession};
-ghost use Rattle.ho_events.specs.Session.{is_out, admits, session_step};
+ghost use Rattle.ho_events.specs.Session.{Free, is_out, admits, session_step};
 ghost use Rattle.ho_events.specs.PlainTurns.{EventIsPlain, ReplyIsPlain};
 ghost use Rattle.session_core.specs.Sessions.{IsFree, name_of, refusal_by, refusal_of, is_loss, add_answer, close_answer};
 ghost use Rattle.session_core.specs.SessionShown.{reference, TokensRise, has_token, is_named, smaller};
@@ -24,12 +24,35 @@ use ho_events::reply::Reply;
 use ho_events::slip::{Slip, Turned};
 use std::alloc::Global;
 use std::marker::Model;
+use std::snapshot::Snapshot;
 
-/// A session slot with the history of all turns on it. Contracts see its number, that history, and how much
-/// more fits; its state is where the history leads.
+/// What a slot is before any turn: the name of the outgoing session, none where the slot is free, and its files with
+/// their handles, in strictly rising tokens. Contracts see the slot's state.
+#[derive(Drop)]
+struct Opening {
+    name: Option<Name>,
+    files: Vec<(Token, FileNo, u64)>,
+}
+
+impl Model for Opening {
+    ghost use Rattle.std.specs.Coded.{codes};
+    ghost use Rattle.std.specs.FinMap as finmap;
+    ghost use Rattle.ho_events.specs.Session.{SessionState};
+    ghost use Rattle.session_core.specs.SessionShown.{shown};
+
+    ghost Value = { SessionState };
+
+    ghost coded = { Prim.hlevel (codes, finmap.code) };
+
+    ghost view = { λ o. shown o.name o.files.items };
+}
+
+/// A session slot with the history of all turns on it. Contracts see its number, its state before the first of these
+/// turns, that history, and how much more fits; its state is where the history leads from there.
 #[derive(Drop)]
 pub struct SessionObject {
     number: ObjectNo,
+    start: Snapshot<Opening>,
     /// The name of the outgoing session; none where the slot is free.
     name: Option<Name>,
     /// The files with their handles, in strictly rising tokens.
@@ -38,6 +61,8 @@ pub struct SessionObject {
 }
 
 impl Model for SessionObject {
+    ghost use Rattle.std.specs.Coded.{codes};
+    ghost use Rattle.std.specs.FinMap as finmap;
     ghost use Rattle.std.specs.Prelude.{◌-◌};
     ghost use Rattle.std.specs.Vec.{vec_len, vec_capacity};
     ghost use Rattle.session_core.specs.SessionValues.{SessionValue};
@@ -45,22 +70,32 @@ impl Model for SessionObject {
 
     ghost Value = { SessionValue };
 
-    ghost view = { λ s. record { number = s.number.0; history = s.history.items; room = vec_capacity s.history - vec_len s.history; spare = vec_capacity s.files - vec_len s.files } };
+    ghost coded = { Prim.hlevel (codes, finmap.code) };
 
-    ghost invariant = { λ s. KeepsSession s.history.items s.name s.files.items };
+    ghost view = { λ s. record { number = s.number.0; start = s.start.value; history = s.history.items; room = vec_capacity s.history - vec_len s.history; spare = vec_capacity s.files - vec_len s.files } };
+
+    ghost invariant = { λ s. KeepsSession s.start.value s.history.items s.name s.files.items };
 }
 
 impl SessionObject {
-    /// A free slot with no history. It takes no memory.
-    #[tactic(auto, using(crate::proofs::Sessions::free_keeps))]
+    /// A slot with no history that begins free. It takes no memory.
+    #[tactic(auto, using(crate::proofs::Sessions::free_keeps, crate::proofs::Sessions::free_none))]
     pub fn free(object: ObjectNo, alloc: Global) -> SessionObject
         ensures number { result.number ≡ object.0 }
+        ensures start { result.start ≡ Free }
         ensures history { result.history ≡ [] }
     {
-        SessionObject {
-            number: object,
+        let opening = Opening {
             name: None,
             files: Vec::new(alloc),
+        };
+        let start = Snapshot::of(&opening);
+        let Opening { name, files } = opening;
+        SessionObject {
+            number: object,
+            start,
+            name,
+            files,
             history: Vec::new(alloc),
         }
     }
@@ -71,6 +106,7 @@ impl SessionObject {
         ensures tokens { OnOk result (tokens ≤ self.new.spare) }
         ensures history { self.new.history ≡ self.old.history }
         ensures number { self.new.number ≡ self.old.number }
+        ensures start { self.new.start ≡ self.old.start }
     {
         if self.history.reserve(entries as usize).is_err()
             || self.files.reserve(tokens as usize).is_err()
@@ -84,7 +120,7 @@ impl SessionObject {
     #[tactic(auto, using(crate::proofs::Sessions::keeps_run))]
     pub fn entries(&self) -> &[Entry]
         ensures value { result.now ≡ self.now.history }
-        ensures run { IsTrue (is_some (session_after self.now.history)) }
+        ensures run { IsTrue (is_some (session_from self.now.start self.now.history)) }
     {
         self.history.as_slice()
     }
@@ -116,7 +152,7 @@ impl SessionObject {
     /// The session's files with their handles, in strictly rising tokens.
     #[tactic(auto, using(crate::proofs::Sessions::content_kept))]
     pub fn files(&self) -> &[(Token, FileNo, u64)]
-        ensures content { session_content (session_after self.now.history) ≡ OfFiles (map reference result.now) }
+        ensures content { session_content (session_from self.now.start self.now.history) ≡ OfFiles (map reference result.now) }
         ensures rising { TokensRise result.now }
     {
         self.files.as_slice()
@@ -142,9 +178,10 @@ impl SessionObject {
         ensures told { result.entry ≡ entry_at slip.at (last_stamp self.old.history) (object_at self.old.number) (SessionBegin name) Ok }
         ensures kept { self.new.history ≡ self.old.history ++ result.entry ∷ [] }
         ensures number { self.new.number ≡ self.old.number }
+        ensures start { self.new.start ≡ self.old.start }
         ensures room { self.new.room + 1 ≡ self.old.room }
         ensures spare { self.new.spare ≡ self.old.spare }
-        ensures run { IsTrue (is_some (session_after self.new.history)) }
+        ensures run { IsTrue (is_some (session_from self.new.start self.new.history)) }
     {
         self.name = Some(name);
         let turned = append_plain_turn(
@@ -180,9 +217,10 @@ impl SessionObject {
         ensures told { result.entry ≡ entry_at slip.at (last_stamp self.old.history) (object_at self.old.number) (SessionAdd name token file handle) result.value }
         ensures kept { self.new.history ≡ self.old.history ++ result.entry ∷ [] }
         ensures number { self.new.number ≡ self.old.number }
+        ensures start { self.new.start ≡ self.old.start }
         ensures room { self.new.room + 1 ≡ self.old.room }
         ensures spare { self.old.spare ≤ self.new.spare + 1 }
-        ensures run { IsTrue (is_some (session_after self.new.history)) }
+        ensures run { IsTrue (is_some (session_from self.new.start self.new.history)) }
     {
         let refusal = self.admits(name, token);
         match refusal.or(lost) {
@@ -202,9 +240,10 @@ impl SessionObject {
         ensures told { result.entry ≡ entry_at slip.at (last_stamp self.old.history) (object_at self.old.number) (SessionClose name) result.value }
         ensures kept { self.new.history ≡ self.old.history ++ result.entry ∷ [] }
         ensures number { self.new.number ≡ self.old.number }
+        ensures start { self.new.start ≡ self.old.start }
         ensures room { self.new.room + 1 ≡ self.old.room }
         ensures spare { self.old.spare ≤ self.new.spare }
-        ensures run { IsTrue (is_some (session_after self.new.history)) }
+        ensures run { IsTrue (is_some (session_from self.new.start self.new.history)) }
     {
         if self.is_out(name) {
             self.end(slip, name)
@@ -226,9 +265,10 @@ impl SessionObject {
         ensures told { result.entry ≡ entry_at slip.at (last_stamp self.old.history) (object_at self.old.number) event reply }
         ensures kept { self.new.history ≡ self.old.history ++ result.entry ∷ [] }
         ensures number { self.new.number ≡ self.old.number }
+        ensures start { self.new.start ≡ self.old.start }
         ensures room { self.new.room + 1 ≡ self.old.room }
         ensures spare { self.new.spare ≡ self.old.spare }
-        ensures run { IsTrue (is_some (session_after self.new.history)) }
+        ensures run { IsTrue (is_some (session_from self.new.start self.new.history)) }
     {
         append_plain_turn(&mut self.history, self.number, slip, event, reply)
     }
@@ -251,9 +291,10 @@ impl SessionObject {
         ensures told { result.entry ≡ entry_at slip.at (last_stamp self.old.history) (object_at self.old.number) (SessionAdd name token file handle) Ok }
         ensures kept { self.new.history ≡ self.old.history ++ result.entry ∷ [] }
         ensures number { self.new.number ≡ self.old.number }
+        ensures start { self.new.start ≡ self.old.start }
         ensures room { self.new.room + 1 ≡ self.old.room }
         ensures spare { self.old.spare ≤ self.new.spare + 1 }
-        ensures run { IsTrue (is_some (session_after self.new.history)) }
+        ensures run { IsTrue (is_some (session_from self.new.start self.new.history)) }
     {
         let at = place_of(self.files.as_slice(), token);
         self.files.insert(at, (token, file, handle)).unwrap();
@@ -277,9 +318,10 @@ impl SessionObject {
         ensures told { result.entry ≡ entry_at slip.at (last_stamp self.old.history) (object_at self.old.number) (SessionClose name) Ok }
         ensures kept { self.new.history ≡ self.old.history ++ result.entry ∷ [] }
         ensures number { self.new.number ≡ self.old.number }
+        ensures start { self.new.start ≡ self.old.start }
         ensures room { self.new.room + 1 ≡ self.old.room }
         ensures spare { self.old.spare ≤ self.new.spare }
-        ensures run { IsTrue (is_some (session_after self.new.history)) }
+        ensures run { IsTrue (is_some (session_from self.new.start self.new.history)) }
     {
         self.name = None;
         self.files.clear();

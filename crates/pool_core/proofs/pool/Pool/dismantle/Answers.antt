@@ -9,4 +9,4 @@ use Rattle.pool_core.proofs.pool.Pool.dismantle.Goals as goal
 pub returns-clause-free : goal.returns-clause-free
 returns-clause-free c =
     let P : PoolValue → Type 0 = λ v. PoolIs v (λ s. (p : Pfn) → p.0 < v.shape.frames → finmap.get s.owned p.0 ≡ None → IsHome c.into_frames.result p) in
-    subst P c.self.view_is (free_told c.self.inside.table c.self.inside.history.items c.into_frames.result c.self.invariant c.into_frames.ensures.free)
+    subst P c.self.view_is (free_told c.self.inside.table c.self.inside.start.value c.self.inside.history.items c.into_frames.result c.self.invariant c.into_frames.ensures.free)
