@@ -14,8 +14,9 @@ use Rattle.phys_frames.specs.Homes.{HomeId}
 use Rattle.phys_frames.specs.Memory.{Memory, FolioValue}
 use Rattle.ho_events.specs.File.{FileState}
 use Rattle.ho_events.specs.Pool.{cold_pool}
+use Rattle.ho_events.specs.Registry.{cold_registry}
 use Rattle.ho_events.specs.Session.{Free}
-use Rattle.ho_events.specs.History.{on, run_from, pool_from, registry_after, session_from, file_from}
+use Rattle.ho_events.specs.History.{on, run_from, pool_from, registry_from, session_from, file_from}
 use Rattle.machine_core.specs.declared.object.Object.{Object}
 use Rattle.machine_core.specs.declared.object.Object.TheVariants as kind_of
 use Rattle.pool_core.specs.PoolValues.{PoolValue}
@@ -67,9 +68,9 @@ pub handler_gap : (shape : Layout) → (home : HomeId) → (n : ℕ) → spot_at
 unfolding IsBuilt
 handler_gap shape home n none = subst (λ s. IsOutAt s pool_out n) (sym none) tt
 
-pub registry_is : (shape : Layout) → (home : HomeId) → (r : RegistryValue) → r.history ≡ [] → IsBuilt shape home registry_no (Some (kind_of.Registry r))
+pub registry_is : (shape : Layout) → (home : HomeId) → (r : RegistryValue) → r.start ≡ cold_registry → r.history ≡ [] → IsBuilt shape home registry_no (Some (kind_of.Registry r))
 unfolding IsBuilt on run_from
-registry_is shape home r none = ((λ e. cc), record { number = refl; kind = refl; machine = tt; history = none; run = subst (λ es. IsTrue (is_some (registry_after es))) (sym none) refl })
+registry_is shape home r start none = ((λ e. cc), record { number = refl; kind = refl; machine = start; history = none; run = subst (λ es. IsTrue (is_some (registry_from r.start es))) (sym none) refl })
 
 pub session_is : (shape : Layout) → (home : HomeId) → (s : SessionValue) → (slot : ℕ) → slot < OUT_SLOTS + IN_SLOTS → s.number ≡ session_no slot → s.start ≡ Free → s.history ≡ [] → IsBuilt shape home (session_no slot) (Some (kind_of.Session s))
 unfolding IsBuilt on run_from

@@ -3,7 +3,7 @@ use Rattle.std.specs.Prelude.{◌≡◌, ℕ, ◌+◌, ◌<◌, ◌≤◌, Bool,
 use Rattle.ho_base.specs.ShapeRule.{Layout}
 use Rattle.ho_base.specs.declared.limits.TheConstants.{FILES}
 use Rattle.ho_base.specs.Objects.{pool_no, registry_no, session_no, file_no}
-use Rattle.ho_events.specs.History.{Paired, last_stamp, pool_from, registry_after, session_from, file_from}
+use Rattle.ho_events.specs.History.{Paired, last_stamp, pool_from, registry_from, session_from, file_from}
 use Rattle.ho_events.specs.Sequences.{object_at}
 use Rattle.ho_events.specs.declared.entry.Entry.{Entry}
 use Rattle.ho_events.specs.declared.entry.Place.TheVariants.{Own}
@@ -51,7 +51,7 @@ history_of (File f) = f.history
 -- the history is a run of the object's steps from its start
 abbrev pub IsRunOf : object.Object → Type 0
 IsRunOf (Pool p) = IsTrue (is_some (pool_from p.start p.history))
-IsRunOf (Registry r) = IsTrue (is_some (registry_after r.history))
+IsRunOf (Registry r) = IsTrue (is_some (registry_from r.start r.history))
 IsRunOf (Session s) = IsTrue (is_some (session_from s.start s.history))
 IsRunOf (File f) = IsTrue (is_some (file_from f.start f.history))
 

@@ -4,6 +4,7 @@ ghost use Rattle.std.specs.Prelude.{◌≡◌, ◌<◌, ◌≤◌, ◌+◌, [], 
 ghost use Rattle.std.specs.List.{All};
 ghost use Rattle.ho_base.specs.declared.limits.TheConstants.{FILES, IN_SLOTS, MAX_FRAMES, MIN_FRAMES, OUT_SLOTS};
 ghost use Rattle.ho_base.specs.Objects.{session_no, file_no};
+ghost use Rattle.ho_events.specs.Registry.{cold_registry};
 ghost use Rattle.phys_frames.specs.Memory.{AllHome, AreOf};
 ghost use Rattle.machine_core.specs.Kernels.{AreBuilt, IsBuilt, IsLeft};
 ghost use Rattle.machine_core.specs.Plain.{object_count};
@@ -168,6 +169,7 @@ fn with_objects(
     requires shape { pool.shape ≡ shape.value }
     requires start { pool.start ≡ (starts shape.value).pool }
     requires pool { pool.history ≡ [] }
+    requires registry_start { registry.start ≡ (starts shape.value).registry }
     requires registry { registry.history ≡ [] }
     requires empty { objects.items ≡ [] }
     requires room { object_count ≤ vec_capacity objects }
@@ -188,6 +190,7 @@ fn with_objects(
 /// Puts all objects but the pool into the empty list, which has room for them.
 #[tactic(auto, using(crate::proofs::Kernels::pool_gap, crate::proofs::Kernels::registry_is, crate::proofs::Kernels::handler_gap, crate::proofs::Kernels::none_built))]
 fn build(alloc: Global, pool: &Pool, registry: Registry, objects: &mut Vec<Option<Object>>)
+    requires start { registry.start ≡ cold_registry }
     requires registry { registry.history ≡ [] }
     requires empty { objects.old.items ≡ [] }
     requires room { object_count ≤ vec_capacity objects.old }

@@ -2,7 +2,7 @@
 
 ghost use Rattle.std.specs.Prelude.{◌≡◌, ◌<◌, ◌+◌, IsTrue, is_some, Some, None};
 ghost use Rattle.ho_base.specs.Objects.{pool_no, registry_no, session_no, file_no};
-ghost use Rattle.ho_events.specs.History.{pool_from, registry_after, session_from, file_from};
+ghost use Rattle.ho_events.specs.History.{pool_from, registry_from, session_from, file_from};
 ghost use Rattle.machine_core.specs.Machine.{Agent, Taken};
 ghost use Rattle.machine_core.specs.Starts.{starts};
 
@@ -34,7 +34,8 @@ pub fn begin_pool<R: Reach>(reach: &mut R) -> Pool
 /// Takes the registry.
 pub fn begin_registry<R: Reach>(reach: &mut R) -> Registry
     requires { (R.shown reach.old).hands.registry ≡ None }
-    ensures run { IsTrue (is_some (registry_after result.history)) }
+    ensures run { IsTrue (is_some (registry_from result.start result.history)) }
+    ensures start { result.start ≡ (starts (R.shown reach.old).shape).registry }
     ensures taken { R.shown reach.new ≡ record (R.shown reach.old) { hands = record (R.shown reach.old).hands { registry = Some (record { number = registry_no; history = result.history }) } } }
 {
     match reach.begin(ObjectNo::REGISTRY) {
