@@ -35,10 +35,10 @@ use std::alloc::Global;
 use std::marker::Model;
 use std::snapshot::Snapshot;
 
-/// The frames of a machine, as they are owned and pinned, with the history of all turns on them. It may begin
-/// with runs of all orders; each run that a call takes, gives, pins or lets go is one frame, of order 0. Contracts see the machine's shape, the frames' home, the state before the first of
-/// these turns, that history, and how much more of it fits; which frames are owned and pinned is where the history
-/// leads from there.
+/// The frames of a machine, as they are owned and pinned, with the history of all turns on them. It may begin with
+/// runs of all orders; each run that a call takes, gives, pins or lets go is one frame, of order 0. Contracts see the
+/// machine's shape, the frames' home, the state before the first of these turns, that history, and how much more of
+/// it fits; which frames are owned and pinned is where the history leads from there.
 pub struct Pool {
     table: Table,
     start: Snapshot<Opening>,
