@@ -1,17 +1,16 @@
 //! The pool: which frames are owned and which are pinned, and the history of that.
 
-ghost use Rattle.std.specs.Prelude.{◌≡◌, ◌+◌, ◌<◌, ◌≤◌, ◌^◌, ◌↔◌, ◌++◌, ◌∷◌, [], ℕ, None, Some, IfOk, IfErr, OnOk, IsTrue, is_some, length, map, nat_le};
+ghost use Rattle.std.specs.Prelude.{◌≡◌, ◌+◌, ◌<◌, ◌≤◌, ◌^◌, ◌↔◌, ◌++◌, ◌∷◌, [], ℕ, None, Some, IfOk, IfErr, OnOk, IsTrue, false, is_some, length, map, nat_le};
 ghost use Rattle.std.specs.Bool.{MatchBool};
 ghost use Rattle.std.specs.Option.{IsSome};
 ghost use Rattle.std.specs.List.{All};
 ghost use Rattle.std.specs.Vec.{vec_len, vec_capacity};
-ghost use Rattle.std.specs.FinMap as finmap;
 ghost use Rattle.ho_base.specs.Objects.{pool_no};
 ghost use Rattle.ho_base.specs.declared.numbers.Pfn.{Pfn};
 ghost use Rattle.phys_frames.specs.Memory.{AllHome, IsHome};
 ghost use Rattle.ho_events.specs.Lists.{firsts};
 ghost use Rattle.ho_events.specs.History.{last_stamp, pool_from};
-ghost use Rattle.ho_events.specs.Pool.{can_take, can_give, can_unmark, cold_pool, free_runs};
+ghost use Rattle.ho_events.specs.Pool.{can_take, can_give, can_unmark, cold_pool, free_runs, is_owned};
 ghost use Rattle.ho_events.specs.Sequences.{object_at};
 ghost use Rattle.ho_events.specs.Slips.{HasRoomFor, entry_at, reply_runs};
 ghost use Rattle.ho_events.specs.declared.event.Event.TheVariants.{PoolTake, PoolGive, PoolMark, PoolUnmark};
@@ -36,10 +35,10 @@ use std::alloc::Global;
 use std::marker::Model;
 use std::snapshot::Snapshot;
 
-/// The frames of a machine, as they are owned and pinned, with the history of all turns on them. Each run is one
-/// frame: all orders are 0. Contracts see the machine's shape, the frames' home, the state before the first of
-/// these turns, that history, and how much more of it fits; which frames are owned and pinned is where the history
-/// leads from there.
+/// The frames of a machine, as they are owned and pinned, with the history of all turns on them. It may begin with
+/// runs of all orders; each run that a call takes, gives, pins or lets go is one frame, of order 0. Contracts see the
+/// machine's shape, the frames' home, the state before the first of these turns, that history, and how much more of
+/// it fits; which frames are owned and pinned is where the history leads from there.
 pub struct Pool {
     table: Table,
     start: Snapshot<Opening>,
@@ -64,8 +63,8 @@ impl Model for Pool {
 }
 
 impl Pool {
-    /// A pool with no history that begins cold: no frame is owned, and none is pinned. It takes memory for two flags
-    /// a frame; where that can't be had the frames come back as they were.
+    /// A pool with no history that begins cold: no frame is owned, and none is pinned. It takes memory for three
+    /// flags a frame; where that can't be had the frames come back as they were.
     #[tactic(auto, using(crate::proofs::PoolRuns::cold_keeps, crate::proofs::PoolRuns::cold_start))]
     pub fn new(alloc: Global, frames: Frames, shape: Shape) -> Result<Pool, Frames>
         requires home { AllHome frames }
@@ -87,11 +86,11 @@ impl Pool {
         }
     }
 
-    /// The frames: each that isn't owned is home. It takes no memory.
+    /// The frames: each that no owned run holds is home. It takes no memory.
     pub fn dismantle(self) -> Frames
         ensures home { result.home ≡ self.home }
         ensures count { length result.pages ≡ self.shape.frames }
-        ensures free { PoolIs self (λ s. (p : Pfn) → p.0 < self.shape.frames → finmap.get s.owned p.0 ≡ None → IsHome result p) }
+        ensures free { PoolIs self (λ s. (p : Pfn) → p.0 < self.shape.frames → is_owned s p.0 ≡ false → IsHome result p) }
     {
         let Pool {
             table,

@@ -1,4 +1,4 @@
-//! A session slot: free, or the outgoing session of a name with its files.
+//! A session slot: free, or the outgoing or incoming session of a name with its files.
 
 ghost use Rattle.std.specs.Prelude.{◌≡◌, ◌+◌, ◌<◌, ◌≤◌, ◌^◌, ◌↔◌, ◌++◌, ◌∷◌, [], None, OnOk, IfSome, IsTrue, is_some, length, map, nat_le};
 ghost use Rattle.ho_base.specs.declared.limits.TheConstants.{SESSION_FILES};
@@ -10,9 +10,10 @@ ghost use Rattle.ho_events.specs.declared.reply.Reply.TheVariants.{Ok, NoSession
 ghost use Rattle.ho_events.specs.Session.{Free, is_out, admits, session_step};
 ghost use Rattle.ho_events.specs.PlainTurns.{EventIsPlain, ReplyIsPlain};
 ghost use Rattle.session_core.specs.Sessions.{IsFree, name_of, refusal_by, refusal_of, is_loss, add_answer, close_answer};
-ghost use Rattle.session_core.specs.SessionShown.{reference, TokensRise, has_token, is_named, smaller};
+ghost use Rattle.session_core.specs.SessionShown.{reference, TokensRise, has_none, has_token, is_named, smaller};
 ghost use Rattle.session_core.specs.SessionValues.{SessionIs};
 
+use crate::opening::{Incoming, Opening};
 use ho_base::limits::SESSION_FILES;
 use ho_base::name::Name;
 use ho_base::numbers::{FileNo, NoMemory, ObjectNo, Token};
@@ -26,34 +27,15 @@ use std::alloc::Global;
 use std::marker::Model;
 use std::snapshot::Snapshot;
 
-/// What a slot is before any turn: the name of the outgoing session, none where the slot is free, and its files with
-/// their handles, in strictly rising tokens. Contracts see the slot's state.
-#[derive(Drop)]
-struct Opening {
-    name: Option<Name>,
-    files: Vec<(Token, FileNo, u64)>,
-}
-
-impl Model for Opening {
-    ghost use Rattle.std.specs.Coded.{codes};
-    ghost use Rattle.std.specs.FinMap as finmap;
-    ghost use Rattle.ho_events.specs.Session.{SessionState};
-    ghost use Rattle.session_core.specs.SessionShown.{shown};
-
-    ghost Value = { SessionState };
-
-    ghost coded = { Prim.hlevel (codes, finmap.code) };
-
-    ghost view = { λ o. shown o.name o.files.items };
-}
-
 /// A session slot with the history of all turns on it. Contracts see its number, its state before the first of these
 /// turns, that history, and how much more fits; its state is where the history leads from there.
 #[derive(Drop)]
 pub struct SessionObject {
     number: ObjectNo,
     start: Snapshot<Opening>,
-    /// The name of the outgoing session; none where the slot is free.
+    /// The incoming session, where the slot has one.
+    incoming: Option<Incoming>,
+    /// The name of the outgoing session, where the slot has one.
     name: Option<Name>,
     /// The files with their handles, in strictly rising tokens.
     files: Vec<(Token, FileNo, u64)>,
@@ -74,7 +56,7 @@ impl Model for SessionObject {
 
     ghost view = { λ s. record { number = s.number.0; start = s.start.value; history = s.history.items; room = vec_capacity s.history - vec_len s.history; spare = vec_capacity s.files - vec_len s.files } };
 
-    ghost invariant = { λ s. KeepsSession s.start.value s.history.items s.name s.files.items };
+    ghost invariant = { λ s. KeepsSession s.start.value s.history.items s.incoming s.name s.files.items };
 }
 
 impl SessionObject {
@@ -86,14 +68,20 @@ impl SessionObject {
         ensures history { result.history ≡ [] }
     {
         let opening = Opening {
+            incoming: None,
             name: None,
             files: Vec::new(alloc),
         };
         let start = Snapshot::of(&opening);
-        let Opening { name, files } = opening;
+        let Opening {
+            incoming,
+            name,
+            files,
+        } = opening;
         SessionObject {
             number: object,
             start,
+            incoming,
             name,
             files,
             history: Vec::new(alloc),
@@ -130,10 +118,10 @@ impl SessionObject {
     pub fn is_free(&self) -> bool
         ensures { SessionIs self.now (λ s. IsTrue result ↔ IsFree s) }
     {
-        self.name.is_none()
+        is_empty(&self.incoming, self.name)
     }
 
-    /// The name of the outgoing session; none exactly where the slot is free.
+    /// The name of the outgoing session; none exactly where the slot isn't one.
     #[tactic(auto, using(crate::proofs::Sessions::name_shown))]
     pub fn name(&self) -> Option<Name>
         ensures { SessionIs self.now (λ s. result ≡ name_of s) }
@@ -344,6 +332,16 @@ impl Recorded for SessionObject {
 
     fn last_stamp(&self) -> u64 {
         last_stamp_of(self.history.as_slice())
+    }
+}
+
+/// Whether a slot has neither an incoming session nor an outgoing one.
+fn is_empty(incoming: &Option<Incoming>, name: Option<Name>) -> bool
+    ensures { result ≡ has_none incoming.now name }
+{
+    match incoming {
+        Some(_) => false,
+        None => name.is_none(),
     }
 }
 

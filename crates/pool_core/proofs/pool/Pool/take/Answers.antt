@@ -1,7 +1,7 @@
 use Rattle.std.proofs.Common.{◌≡◌, true, false, length, ap, sym, ◌∙◌, subst, nat_le}
 use Rattle.ho_events.specs.Pool.{free_runs}
 use Rattle.ho_events.specs.declared.reply.Reply.TheVariants.{Got}
-use Rattle.pool_core.specs.PoolFlags.{with_owned, with_flags}
+use Rattle.pool_core.specs.PoolFlags.{with_owned}
 use Rattle.pool_core.specs.PoolValues.{PoolValue, PoolIs}
 use Rattle.pool_core.proofs.PoolRuns.{take_keeps, none_keeps, enough_told, keeps_is_run}
 use Rattle.pool_core.proofs.pool.Pool.take.Goals as goal
@@ -13,7 +13,7 @@ invariant_of-self c =
     take_keeps c.self.inside.table c.lend_all.new.self c.self.inside.start.value c.self.inside.history.items c.append_turn-entry.new.history.items c.append_turn-entry.result.entry c.args.order c.args.count c.find.new.runs.items
     c.requires.single c.self.invariant
     (ap (λ e. e.event) c.append_turn-entry.ensures.told) (ap (λ e. e.reply) c.append_turn-entry.ensures.told ∙ ap Got c.from_vec.ensures) c.append_turn-entry.ensures.kept
-    (c.lend_all.ensures.value ∙ ap (λ runs. with_owned c.self.inside.table (with_flags true runs c.self.inside.table.owned)) shown)
+    (c.lend_all.ensures.value ∙ ap (with_owned c.self.inside.table true) shown)
     len c.find.ensures.different c.find.ensures.free
 
 pub returns-then-find-clause-exact : goal.returns-then-find-clause-exact
