@@ -26,6 +26,21 @@ and_false_right : (b c : Bool) → c ≡ false → (b && c) ≡ false
 and_false_right true c e = e
 and_false_right false c e = refl
 
+-- the block of a task is not below where the search begins
+pub at_least : (b k : ℕ) (blocks : List Block) (a n : ℕ) (d : Due) → due_from b k blocks a n ≡ Some d → b ≤ d.block
+unfolding due_from
+at_least b k [] a n d is = absurd (not_some d is)
+at_least b k (Round works ∷ blocks) a n d is = round (command_among works a n) (at_least (b + 1) k blocks a n d) is
+  where
+    round : (o : Option Command) → (due_from (b + 1) k blocks a n ≡ Some d → b + 1 ≤ d.block) → or_else (asked_in b o) (due_from (b + 1) k blocks a n) ≡ Some d → b ≤ d.block
+    round None next is = let more : b + 1 ≤ d.block = next is in omega (arith, more)
+    round (Some c) next is = let same : b ≡ d.block = ap (λ x. x.block) (same_value (record { block = b; task = Ask c }) d is) in omega (arith, same)
+at_least b k (Kexec blob ∷ blocks) a n d is = kexec (a == 0 && n == k) (at_least (b + 1) (k + 1) blocks a n d) is
+  where
+    kexec : (t : Bool) → (due_from (b + 1) (k + 1) blocks a n ≡ Some d → b + 1 ≤ d.block) → (if t then Some (record { block = b; task = Reboot blob }) else due_from (b + 1) (k + 1) blocks a n) ≡ Some d → b ≤ d.block
+    kexec false next is = let more : b + 1 ≤ d.block = next is in omega (arith, more)
+    kexec true next is = let same : b ≡ d.block = ap (λ x. x.block) (same_value (record { block = b; task = Reboot blob }) d is) in omega (arith, same)
+
 module _ (es : List Entry) where
   -- a command that isn't done leaves its work undone
   undone_at : (a n i : ℕ) (cs : List Command) (c : Command) → slice_get cs i ≡ Some c → has_done a (n + i) es ≡ false → are_done es a n cs ≡ false
@@ -98,21 +113,6 @@ module _ (es : List Entry) where
       rest a n None p is h = h
       rest a n (Some c) None is h = tt
       rest a n (Some c) (Some d) is h = h
-
-  -- the block of a task is not below where the search begins
-  at_least : (b k : ℕ) (blocks : List Block) (a n : ℕ) (d : Due) → due_from b k blocks a n ≡ Some d → b ≤ d.block
-  unfolding due_from
-  at_least b k [] a n d is = absurd (not_some d is)
-  at_least b k (Round works ∷ blocks) a n d is = round (command_among works a n) (at_least (b + 1) k blocks a n d) is
-    where
-      round : (o : Option Command) → (due_from (b + 1) k blocks a n ≡ Some d → b + 1 ≤ d.block) → or_else (asked_in b o) (due_from (b + 1) k blocks a n) ≡ Some d → b ≤ d.block
-      round None next is = let more : b + 1 ≤ d.block = next is in omega (arith, more)
-      round (Some c) next is = let same : b ≡ d.block = ap (λ x. x.block) (same_value (record { block = b; task = Ask c }) d is) in omega (arith, same)
-  at_least b k (Kexec blob ∷ blocks) a n d is = kexec (a == 0 && n == k) (at_least (b + 1) (k + 1) blocks a n d) is
-    where
-      kexec : (t : Bool) → (due_from (b + 1) (k + 1) blocks a n ≡ Some d → b + 1 ≤ d.block) → (if t then Some (record { block = b; task = Reboot blob }) else due_from (b + 1) (k + 1) blocks a n) ≡ Some d → b ≤ d.block
-      kexec false next is = let more : b + 1 ≤ d.block = next is in omega (arith, more)
-      kexec true next is = let same : b ≡ d.block = ap (λ x. x.block) (same_value (record { block = b; task = Reboot blob }) d is) in omega (arith, same)
 
   -- every task of a block before block c is done
   abbrev AllBelow : ℕ → ℕ → ℕ → List Block → Type 0

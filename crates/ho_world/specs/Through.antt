@@ -2,7 +2,9 @@
 use Rattle.std.specs.Prelude.{◌≡◌, ℕ, ◌+◌, ◌<◌, ◌≤◌, Bool, false, not, ◌&&◌, ◌||◌, ◌==◌, nat_lt, nat_le, List, [], ◌∷◌, ◌++◌, is_some, IsTrue, Option, None, Some}
 use Rattle.std.specs.List.{list_all}
 use Rattle.ho_events.specs.declared.entry.Entry.{Entry}
+use Rattle.ho_events.specs.Script.Rules.{is_numbered}
 use Rattle.ho_events.specs.declared.script.Block.{Block}
+use Rattle.ho_events.specs.declared.script.Script.{Script}
 use Rattle.ho_events.specs.History.{on}
 use Rattle.ho_world.specs.World.{World, run}
 use Rattle.ho_world.specs.Entries.{in_kernel, beginning, all_pairs}
@@ -49,3 +51,7 @@ HasRisingNumbers blocks = (a m n : ℕ) (c d : Due) → m < n → due_of blocks 
 abbrev pub ThroughIsLegal : Type 0
 ThroughIsLegal =
     (start : World) (blocks : List Block) (es : List Entry) (b k : ℕ) → HasRisingNumbers blocks → IsThrough start blocks es b k → IsLegalSoFar start blocks es
+
+-- a script whose agents' commands are numbered from 1 on, over all its blocks, has rising numbers
+abbrev pub NumberedRises : Type 0
+NumberedRises = (script : Script) → IsTrue (is_numbered script) → HasRisingNumbers script.blocks

@@ -4,7 +4,7 @@
 
 ghost use Rattle.ho_world.specs.Readings.{ReadingsAreLegal};
 ghost use Rattle.ho_world.specs.Refusals.{QuietIsQuiet, RefusedChangesNothing};
-ghost use Rattle.ho_world.specs.Through.{ThroughIsLegal};
+ghost use Rattle.ho_world.specs.Through.{NumberedRises, ThroughIsLegal};
 
 /// A list of entries that reads well in three ways is a legal history: its stamps, order and blocks are right, each
 /// object's entries in each kernel are a run of its steps, and each agent's commands are whole sequences.
@@ -25,4 +25,10 @@ pub fn quiet_events_change_nothing()
 /// A refused preserve or kexec has quiet events alone, or besides them takes runs and gives back exactly these.
 pub fn refused_changes_nothing()
     ensures { RefusedChangesNothing }
+{}
+
+/// In a script whose agents' commands are numbered from 1 on over all its blocks, as every script that is read has
+/// them, an agent's later command stands in no earlier block.
+pub fn numbered_scripts_have_rising_numbers()
+    ensures { NumberedRises }
 {}
