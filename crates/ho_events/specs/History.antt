@@ -26,21 +26,37 @@ unfoldable pub run_from : {S : Type 0} → (S → Event → Reply → Option S) 
 run_from step s [] = s
 run_from step s (e ∷ es) = run_from step (then_entry step s e) es
 
--- the states of the objects after their histories in a kernel that began cold
+-- the states of the objects after their histories, from the states in which their kernel began
+abbrev pub pool_from : PoolState → List Entry → Option PoolState
+pool_from start es = run_from pool_step (Some start) es
+
+abbrev pub registry_from : RegistryState → List Entry → Option RegistryState
+registry_from start es = run_from registry_step (Some start) es
+
+abbrev pub handler_from : HandlerState → List Entry → Option HandlerState
+handler_from start es = run_from handler_step (Some start) es
+
+abbrev pub session_from : SessionState → List Entry → Option SessionState
+session_from start es = run_from session_step (Some start) es
+
+abbrev pub file_from : Option FileState → List Entry → Option (Option FileState)
+file_from start es = run_from file_step (Some start) es
+
+-- the same in a kernel that began cold
 abbrev pub pool_after : Layout → List Entry → Option PoolState
-pool_after shape es = run_from pool_step (Some (cold_pool shape)) es
+pool_after shape es = pool_from (cold_pool shape) es
 
 abbrev pub registry_after : List Entry → Option RegistryState
-registry_after es = run_from registry_step (Some cold_registry) es
+registry_after es = registry_from cold_registry es
 
 abbrev pub handler_after : List Entry → Option HandlerState
-handler_after es = run_from handler_step (Some cold_handler) es
+handler_after es = handler_from cold_handler es
 
 abbrev pub session_after : List Entry → Option SessionState
-session_after es = run_from session_step (Some Free) es
+session_after es = session_from Free es
 
 abbrev pub file_after : List Entry → Option (Option FileState)
-file_after es = run_from file_step (Some None) es
+file_after es = file_from None es
 
 -- whether an entry is on an object
 abbrev pub is_on : ℕ → Place → Bool

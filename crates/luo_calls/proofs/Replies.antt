@@ -1,7 +1,8 @@
 -- Which replies come, from what the objects say of them.
 use Rattle.std.proofs.Common.{◌≡◌, ℕ, List, sym, subst}
 use Rattle.std.specs.Prelude.{Option, Some, None, MatchOption}
-use Rattle.ho_events.specs.Registry.{RegistryState, slot_of, least_free_slot, least_free_file}
+use Rattle.std.specs.FinMap as finmap
+use Rattle.ho_events.specs.Registry.{RegistryState, least_free_slot, least_free_file}
 use Rattle.ho_events.specs.declared.reply.Reply.{Reply}
 use Rattle.registry_core.specs.Registries.{create_answer, find_answer, file_answer, IsWithin}
 use Rattle.luo_calls.specs.Replies.{IsFileReply, IsCreateReply, IsFindReply}
@@ -19,7 +20,7 @@ create_is (Some k) p h = tt
 create_is None None h = tt
 create_is None (Some s) h = h
 
-pub create_replied : (h : Option RegistryState) → (v : Reply) → (name : List ℕ) → MatchOption h ⊥ (λ s. v ≡ create_answer (slot_of name s.outgoing) (least_free_slot s.outgoing)) → IsWithin v → IsCreateReply v
+pub create_replied : (h : Option RegistryState) → (v : Reply) → (name : List ℕ) → MatchOption h ⊥ (λ s. v ≡ create_answer (finmap.get s.outgoing name) (least_free_slot s.outgoing)) → IsWithin v → IsCreateReply v
 create_replied None v name e w = absurd e
 create_replied (Some s) v name e w = subst IsCreateReply (sym e) (create_is _ _ (subst IsWithin e w))
 
@@ -27,6 +28,6 @@ find_is : (o : Option ℕ) → IsWithin (find_answer o) → IsFindReply (find_an
 find_is None h = tt
 find_is (Some s) h = h
 
-pub find_replied : (h : Option RegistryState) → (v : Reply) → (name : List ℕ) → MatchOption h ⊥ (λ s. v ≡ find_answer (slot_of name s.outgoing)) → IsWithin v → IsFindReply v
+pub find_replied : (h : Option RegistryState) → (v : Reply) → (name : List ℕ) → MatchOption h ⊥ (λ s. v ≡ find_answer (finmap.get s.outgoing name)) → IsWithin v → IsFindReply v
 find_replied None v name e w = absurd e
 find_replied (Some s) v name e w = subst IsFindReply (sym e) (find_is _ (subst IsWithin e w))

@@ -1,5 +1,5 @@
 -- What a write asks of the facts of its file, and its turns.
-use Rattle.std.specs.Prelude.{◌≡◌, ℕ, ◌<◌, ◌^◌, Bool, ◌&&◌, ◌||◌, ◌==◌, nat_lt, if◌then◌else◌, List, [], ◌∷◌, ◌++◌, length, option_map, Some}
+use Rattle.std.specs.Prelude.{◌≡◌, ℕ, ◌<◌, ◌^◌, Bool, ◌&&◌, ◌||◌, ◌==◌, nat_lt, if◌then◌else◌, List, [], ◌∷◌, ◌++◌, length, option_map, None, Some}
 use Rattle.ho_base.specs.declared.numbers.FileNo.{FileNo}
 use Rattle.ho_events.specs.File.{is_device, touched_holes}
 use Rattle.ho_base.specs.Objects.{file_no}
@@ -34,11 +34,13 @@ pub record IsKnown (v : FileValue) (facts : Facts) (holes off len : ℕ) : Type 
   pub content : file_content (file_after v.history) ≡ OfFile facts.kind facts.order.0
   pub touched : FileHas v (λ f. holes ≡ length (touched_holes f off len))
 
--- an agent has just this file in hand, and all that its write wants: room, a slip, and what is told of it
+-- an agent has just this file in hand, which began absent, and all that its write wants: room, a slip, and what is
+-- told of it
 pub record IsBegun (a : Agent) (at : At) (b : Begun) (f : FileNo) (off len : ℕ) : Type 0 where
   pub hands : a.hands ≡ record no_hands { file = Some (record { number = file_no f.0; history = b.object.history }) }
   pub number : b.object.number ≡ file_no f.0
   pub home : b.object.home ≡ a.home
+  pub start : b.object.start ≡ None
   pub known : IsKnown b.object b.facts b.holes off len
   pub room : 0 < b.object.room
   pub early : last_stamp b.object.history < 2 ^ 63

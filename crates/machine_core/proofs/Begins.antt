@@ -10,7 +10,7 @@ use Rattle.ho_base.specs.declared.numbers.ObjectNo.{ObjectNo}
 use Rattle.ho_base.specs.declared.limits.TheConstants.{FILES}
 use Rattle.ho_base.specs.Objects.{pool_no, registry_no, session_no, file_no}
 use Rattle.phys_frames.specs.Homes.{HomeId}
-use Rattle.ho_events.specs.History.{on, by, greatest_stamp, run_from, pool_after, registry_after, session_after, file_after, is_run_of_object, paired, paired_after}
+use Rattle.ho_events.specs.History.{on, by, greatest_stamp, run_from, pool_from, registry_from, session_from, file_from, pool_after, registry_after, session_after, file_after, is_run_of_object, paired, paired_after}
 use Rattle.ho_events.specs.Legal.{rises_from, are_stamped}
 use Rattle.ho_events.specs.declared.entry.Entry.{Entry}
 use Rattle.machine_core.specs.declared.object.Object.{Object}
@@ -84,7 +84,7 @@ left_object : (shape : Layout) → (home : HomeId) → (log : List Entry) → (n
 left_object shape home log n (kind_of.Pool p) other h = no_other_pool n other (sym h.kind)
 left_object shape home log n (kind_of.Registry r) other h = tt
 left_object shape home log n (kind_of.Session s) other h = tt
-left_object shape home log n (kind_of.File f) other h = h.machine
+left_object shape home log n (kind_of.File f) other h = h.machine.0
 
 left_slot : (shape : Layout) → (home : HomeId) → (out : Out) → (log : List Entry) → (n : ℕ) → (slot : Option Object) → n ≢ pool_no → SlotIs shape home out log n slot → IsLeft home slot
 left_slot shape home out log n None other h = tt
@@ -134,13 +134,13 @@ file_run shape n es e h = grind (arith, nat_tests, e, h)
 
 run_at : (shape : Layout) → (home : HomeId) → (log : List Entry) → (n : ℕ) → (object : Object) → IsAt shape home log n object → IsTrue (is_run_of_object shape n (on n log))
 run_at shape home log n (kind_of.Pool p) h =
-    pool_run shape n (on n log) (sym h.kind) (subst (λ es. IsTrue (is_some (pool_after shape es))) h.history (subst (λ l. IsTrue (is_some (pool_after l p.history))) h.machine.0 h.run))
+    pool_run shape n (on n log) (sym h.kind) (subst (λ es. IsTrue (is_some (pool_after shape es))) h.history (subst (λ start. IsTrue (is_some (pool_from start p.history))) h.machine.2 h.run))
 run_at shape home log n (kind_of.Registry r) h =
-    registry_run shape n (on n log) (sym h.kind) (subst (λ es. IsTrue (is_some (registry_after es))) h.history h.run)
+    registry_run shape n (on n log) (sym h.kind) (subst (λ es. IsTrue (is_some (registry_after es))) h.history (subst (λ start. IsTrue (is_some (registry_from start r.history))) h.machine h.run))
 run_at shape home log n (kind_of.Session s) h =
-    session_run shape n (on n log) (sym h.kind) (subst (λ es. IsTrue (is_some (session_after es))) h.history h.run)
+    session_run shape n (on n log) (sym h.kind) (subst (λ es. IsTrue (is_some (session_after es))) h.history (subst (λ start. IsTrue (is_some (session_from start s.history))) h.machine h.run))
 run_at shape home log n (kind_of.File f) h =
-    file_run shape n (on n log) (sym h.kind) (subst (λ es. IsTrue (is_some (file_after es))) h.history h.run)
+    file_run shape n (on n log) (sym h.kind) (subst (λ es. IsTrue (is_some (file_after es))) h.history (subst (λ start. IsTrue (is_some (file_from start f.history))) h.machine.1 h.run))
 
 is_none_spot : (s : Spot) → (s ≡ NoSpot) ⊎ (s ≢ NoSpot)
 is_none_spot PoolSpot = inr (λ e. cc)

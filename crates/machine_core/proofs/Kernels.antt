@@ -13,7 +13,10 @@ use Rattle.ho_base.specs.Objects.{pool_no, registry_no, session_no, file_no}
 use Rattle.phys_frames.specs.Homes.{HomeId}
 use Rattle.phys_frames.specs.Memory.{Memory, FolioValue}
 use Rattle.ho_events.specs.File.{FileState}
-use Rattle.ho_events.specs.History.{on, run_from, pool_after, registry_after, session_after, file_after}
+use Rattle.ho_events.specs.Pool.{cold_pool}
+use Rattle.ho_events.specs.Registry.{cold_registry}
+use Rattle.ho_events.specs.Session.{Free}
+use Rattle.ho_events.specs.History.{on, run_from, pool_from, registry_from, session_from, file_from}
 use Rattle.machine_core.specs.declared.object.Object.{Object}
 use Rattle.machine_core.specs.declared.object.Object.TheVariants as kind_of
 use Rattle.pool_core.specs.PoolValues.{PoolValue}
@@ -65,33 +68,33 @@ pub handler_gap : (shape : Layout) → (home : HomeId) → (n : ℕ) → spot_at
 unfolding IsBuilt
 handler_gap shape home n none = subst (λ s. IsOutAt s pool_out n) (sym none) tt
 
-pub registry_is : (shape : Layout) → (home : HomeId) → (r : RegistryValue) → r.history ≡ [] → IsBuilt shape home registry_no (Some (kind_of.Registry r))
+pub registry_is : (shape : Layout) → (home : HomeId) → (r : RegistryValue) → r.start ≡ cold_registry → r.history ≡ [] → IsBuilt shape home registry_no (Some (kind_of.Registry r))
 unfolding IsBuilt on run_from
-registry_is shape home r none = ((λ e. cc), record { number = refl; kind = refl; machine = tt; history = none; run = subst (λ es. IsTrue (is_some (registry_after es))) (sym none) refl })
+registry_is shape home r start none = ((λ e. cc), record { number = refl; kind = refl; machine = start; history = none; run = subst (λ es. IsTrue (is_some (registry_from r.start es))) (sym none) refl })
 
-pub session_is : (shape : Layout) → (home : HomeId) → (s : SessionValue) → (slot : ℕ) → slot < OUT_SLOTS + IN_SLOTS → s.number ≡ session_no slot → s.history ≡ [] → IsBuilt shape home (session_no slot) (Some (kind_of.Session s))
+pub session_is : (shape : Layout) → (home : HomeId) → (s : SessionValue) → (slot : ℕ) → slot < OUT_SLOTS + IN_SLOTS → s.number ≡ session_no slot → s.start ≡ Free → s.history ≡ [] → IsBuilt shape home (session_no slot) (Some (kind_of.Session s))
 unfolding IsBuilt on run_from
-session_is shape home s slot below number none = (
+session_is shape home s slot below number start none = (
   (λ e. omega (arith, e)),
   record {
     number = number;
     kind = sym (spot_at_session slot below);
-    machine = tt;
+    machine = start;
     history = none;
-    run = subst (λ es. IsTrue (is_some (session_after es))) (sym none) refl;
+    run = subst (λ es. IsTrue (is_some (session_from s.start es))) (sym none) refl;
   },
 )
 
-pub file_is : (shape : Layout) → (home : HomeId) → (f : FileValue) → (file : ℕ) → file < FILES → f.number ≡ file_no file → f.home ≡ home → f.history ≡ [] → IsBuilt shape home (file_no file) (Some (kind_of.File f))
+pub file_is : (shape : Layout) → (home : HomeId) → (f : FileValue) → (file : ℕ) → file < FILES → f.number ≡ file_no file → f.home ≡ home → f.start ≡ None → f.history ≡ [] → IsBuilt shape home (file_no file) (Some (kind_of.File f))
 unfolding IsBuilt on run_from
-file_is shape home f file below number is none = (
+file_is shape home f file below number is start none = (
   (λ e. omega (arith, e)),
   record {
     number = number;
     kind = sym (spot_at_file file below);
-    machine = is;
+    machine = (is, start);
     history = none;
-    run = subst (λ es. IsTrue (is_some (file_after es))) (sym none) refl;
+    run = subst (λ es. IsTrue (is_some (file_from f.start es))) (sym none) refl;
   },
 )
 
@@ -142,21 +145,21 @@ nothing_held objects SessionSpot = tt
 nothing_held objects FileSpot = tt
 nothing_held objects NoSpot = tt
 
-pool_at : (shape : Layout) → (p : PoolValue) → p.shape ≡ shape → p.history ≡ [] → IsAt shape p.home [] pool_no (kind_of.Pool p)
+pool_at : (shape : Layout) → (p : PoolValue) → p.shape ≡ shape → p.start ≡ cold_pool shape → p.history ≡ [] → IsAt shape p.home [] pool_no (kind_of.Pool p)
 unfolding on run_from
-pool_at shape p same none = record { number = refl; kind = refl; machine = (same, refl); history = none; run = subst (λ es. IsTrue (is_some (pool_after p.shape es))) (sym none) refl }
+pool_at shape p same start none = record { number = refl; kind = refl; machine = (same, refl, start); history = none; run = subst (λ es. IsTrue (is_some (pool_from p.start es))) (sym none) refl }
 
 -- the kernel is built when the pool is put into its place
-pub cold_keeps : (shape : Layout) → (p : PoolValue) → (objects objects' : List (Option Object)) → p.shape ≡ shape → p.history ≡ [] → AreBuilt p.shape p.home objects → length objects ≡ object_count → objects' ≡ slice_set objects pool_no (Some (kind_of.Pool p)) → KeepsObjects shape p.home objects' none_out []
+pub cold_keeps : (shape : Layout) → (p : PoolValue) → (objects objects' : List (Option Object)) → p.shape ≡ shape → p.start ≡ cold_pool shape → p.history ≡ [] → AreBuilt p.shape p.home objects → length objects ≡ object_count → objects' ≡ slice_set objects pool_no (Some (kind_of.Pool p)) → KeepsObjects shape p.home objects' none_out []
 unfolding AreBuilt
-cold_keeps shape p objects objects' same none built count put =
+cold_keeps shape p objects objects' same start none built count put =
     let all : AreBuilt shape p.home objects = subst (λ l. AreBuilt l p.home objects) same built in
     let below : pool_no < length objects = omega (arith, count) in
     rw put (record {
       count = length-set objects pool_no (Some (kind_of.Pool p)) ∙ count;
       slots = λ q q_below. elim (eqb_tells q pool_no) [
         | inl e ↦ subst (λ m. SlotIs shape p.home none_out [] m (slice_index_or (slice_set objects pool_no (Some (kind_of.Pool p))) m None)) (sym e.1)
-            (rw get_or-set_same (pool_at shape p same none))
+            (rw get_or-set_same (pool_at shape p same start none))
         | inr e ↦ let other : q ≢ pool_no = e.1 in rw get_or-set_other (built_slot shape p.home q _ other (all q (omega (arith, q_below, count))))
       ];
       in_hand = nothing_held (slice_set objects pool_no (Some (kind_of.Pool p)));

@@ -3,13 +3,14 @@ use Rattle.std.specs.Prelude.{◌≡◌, ℕ, ◌+◌, ◌<◌, ◌≤◌, Bool,
 use Rattle.ho_base.specs.ShapeRule.{Layout}
 use Rattle.ho_base.specs.declared.limits.TheConstants.{FILES}
 use Rattle.ho_base.specs.Objects.{pool_no, registry_no, session_no, file_no}
-use Rattle.ho_events.specs.History.{Paired, last_stamp, pool_after, registry_after, session_after, file_after}
+use Rattle.ho_events.specs.History.{Paired, last_stamp, pool_from, registry_from, session_from, file_from}
 use Rattle.ho_events.specs.Sequences.{object_at}
 use Rattle.ho_events.specs.declared.entry.Entry.{Entry}
 use Rattle.ho_events.specs.declared.entry.Place.TheVariants.{Own}
 use Rattle.phys_frames.specs.Homes as home
 use Rattle.machine_core.specs.declared.object.Object as object
 use Rattle.machine_core.specs.declared.object.Object.TheVariants.{Pool, Registry, Session, File}
+use Rattle.machine_core.specs.Starts.{starts, BeganAs}
 
 -- which kind of object a number has: none is built at a handler's number, or past the last file's
 pub data Spot : Type 0 where
@@ -47,19 +48,19 @@ history_of (Registry r) = r.history
 history_of (Session s) = s.history
 history_of (File f) = f.history
 
--- the history is a run of the object's steps
+-- the history is a run of the object's steps from its start
 abbrev pub IsRunOf : object.Object → Type 0
-IsRunOf (Pool p) = IsTrue (is_some (pool_after p.shape p.history))
-IsRunOf (Registry r) = IsTrue (is_some (registry_after r.history))
-IsRunOf (Session s) = IsTrue (is_some (session_after s.history))
-IsRunOf (File f) = IsTrue (is_some (file_after f.history))
+IsRunOf (Pool p) = IsTrue (is_some (pool_from p.start p.history))
+IsRunOf (Registry r) = IsTrue (is_some (registry_from r.start r.history))
+IsRunOf (Session s) = IsTrue (is_some (session_from s.start s.history))
+IsRunOf (File f) = IsTrue (is_some (file_from f.start f.history))
 
--- the object is one of a machine of this shape, whose frames have this home
+-- the object is one of a kernel of a machine of this shape, whose frames have this home: it began as its number says
 abbrev pub IsOfMachine : Layout → home.HomeId → object.Object → Type 0
-IsOfMachine shape place (Pool p) = (p.shape ≡ shape) × (p.home ≡ place)
-IsOfMachine shape place (Registry r) = Unit {0}
-IsOfMachine shape place (Session s) = Unit {0}
-IsOfMachine shape place (File f) = f.home ≡ place
+IsOfMachine shape place (Pool p) = (p.shape ≡ shape) × (p.home ≡ place) × BeganAs (starts shape) (Pool p)
+IsOfMachine shape place (Registry r) = BeganAs (starts shape) (Registry r)
+IsOfMachine shape place (Session s) = BeganAs (starts shape) (Session s)
+IsOfMachine shape place (File f) = (f.home ≡ place) × BeganAs (starts shape) (File f)
 
 -- an object in hand, by its number, with the history that it had when it was taken
 pub record Taken : Type 0 where

@@ -4,9 +4,11 @@ ghost use Rattle.std.specs.Prelude.{◌≡◌, ◌<◌, ◌≤◌, ◌+◌, [], 
 ghost use Rattle.std.specs.List.{All};
 ghost use Rattle.ho_base.specs.declared.limits.TheConstants.{FILES, IN_SLOTS, MAX_FRAMES, MIN_FRAMES, OUT_SLOTS};
 ghost use Rattle.ho_base.specs.Objects.{session_no, file_no};
+ghost use Rattle.ho_events.specs.Registry.{cold_registry};
 ghost use Rattle.phys_frames.specs.Memory.{AllHome, AreOf};
 ghost use Rattle.machine_core.specs.Kernels.{AreBuilt, IsBuilt, IsLeft};
 ghost use Rattle.machine_core.specs.Plain.{object_count};
+ghost use Rattle.machine_core.specs.Starts.{starts};
 
 use crate::object::Object;
 use crate::plain::put_back;
@@ -136,9 +138,10 @@ fn frames_of(shape: &Shape) -> u32
     shape.frames()
 }
 
-/// A pool of frames of zeros with no history.
+/// A pool of frames of zeros that begins cold, with no history.
 #[tactic(auto, using(crate::proofs::Kernels::all_home, crate::proofs::Kernels::as_many))]
 fn cold_pool(alloc: Global, shape: Shape) -> Result<Pool, NoMemory>
+    ensures start { IfOk result (λ p. p.start ≡ (starts shape).pool) }
     ensures history { IfOk result (λ p. p.history ≡ []) }
     ensures shape { IfOk result (λ p. p.shape ≡ shape) }
 {
@@ -164,7 +167,9 @@ fn with_objects(
     mut objects: Vec<Option<Object>>,
 ) -> Kernel
     requires shape { pool.shape ≡ shape.value }
+    requires start { pool.start ≡ (starts shape.value).pool }
     requires pool { pool.history ≡ [] }
+    requires registry_start { registry.start ≡ (starts shape.value).registry }
     requires registry { registry.history ≡ [] }
     requires empty { objects.items ≡ [] }
     requires room { object_count ≤ vec_capacity objects }
@@ -185,6 +190,7 @@ fn with_objects(
 /// Puts all objects but the pool into the empty list, which has room for them.
 #[tactic(auto, using(crate::proofs::Kernels::pool_gap, crate::proofs::Kernels::registry_is, crate::proofs::Kernels::handler_gap, crate::proofs::Kernels::none_built))]
 fn build(alloc: Global, pool: &Pool, registry: Registry, objects: &mut Vec<Option<Object>>)
+    requires start { registry.start ≡ cold_registry }
     requires registry { registry.history ≡ [] }
     requires empty { objects.old.items ≡ [] }
     requires room { object_count ≤ vec_capacity objects.old }

@@ -2,8 +2,9 @@
 
 ghost use Rattle.std.specs.Prelude.{◌≡◌, ◌<◌, ◌+◌, IsTrue, is_some, Some, None};
 ghost use Rattle.ho_base.specs.Objects.{pool_no, registry_no, session_no, file_no};
-ghost use Rattle.ho_events.specs.History.{pool_after, registry_after, session_after, file_after};
+ghost use Rattle.ho_events.specs.History.{pool_from, registry_from, session_from, file_from};
 ghost use Rattle.machine_core.specs.Machine.{Agent, Taken};
+ghost use Rattle.machine_core.specs.Starts.{starts};
 
 use crate::object::Object;
 use crate::reach::Reach;
@@ -18,7 +19,8 @@ use session_core::SessionObject;
 /// Takes the pool.
 pub fn begin_pool<R: Reach>(reach: &mut R) -> Pool
     requires { (R.shown reach.old).hands.pool ≡ None }
-    ensures run { IsTrue (is_some (pool_after result.shape result.history)) }
+    ensures run { IsTrue (is_some (pool_from result.start result.history)) }
+    ensures start { result.start ≡ (starts (R.shown reach.old).shape).pool }
     ensures shape { result.shape ≡ (R.shown reach.old).shape }
     ensures home { result.home ≡ (R.shown reach.old).home }
     ensures taken { R.shown reach.new ≡ record (R.shown reach.old) { hands = record (R.shown reach.old).hands { pool = Some (record { number = pool_no; history = result.history }) } } }
@@ -32,7 +34,8 @@ pub fn begin_pool<R: Reach>(reach: &mut R) -> Pool
 /// Takes the registry.
 pub fn begin_registry<R: Reach>(reach: &mut R) -> Registry
     requires { (R.shown reach.old).hands.registry ≡ None }
-    ensures run { IsTrue (is_some (registry_after result.history)) }
+    ensures run { IsTrue (is_some (registry_from result.start result.history)) }
+    ensures start { result.start ≡ (starts (R.shown reach.old).shape).registry }
     ensures taken { R.shown reach.new ≡ record (R.shown reach.old) { hands = record (R.shown reach.old).hands { registry = Some (record { number = registry_no; history = result.history }) } } }
 {
     match reach.begin(ObjectNo::REGISTRY) {
@@ -46,7 +49,8 @@ pub fn begin_registry<R: Reach>(reach: &mut R) -> Registry
 pub fn begin_session<R: Reach>(reach: &mut R, slot: SlotNo) -> SessionObject
     requires slot { slot.0 < OUT_SLOTS + IN_SLOTS }
     requires free { (R.shown reach.old).hands.session ≡ None }
-    ensures run { IsTrue (is_some (session_after result.history)) }
+    ensures run { IsTrue (is_some (session_from result.start result.history)) }
+    ensures start { result.start ≡ (starts (R.shown reach.old).shape).session (session_no slot.0) }
     ensures number { result.number ≡ session_no slot.0 }
     ensures taken { R.shown reach.new ≡ record (R.shown reach.old) { hands = record (R.shown reach.old).hands { session = Some (record { number = session_no slot.0; history = result.history }) } } }
 {
@@ -61,7 +65,8 @@ pub fn begin_session<R: Reach>(reach: &mut R, slot: SlotNo) -> SessionObject
 pub fn begin_file<R: Reach>(reach: &mut R, file: FileNo) -> FileObject
     requires file { file.0 < FILES }
     requires free { (R.shown reach.old).hands.file ≡ None }
-    ensures run { IsTrue (is_some (file_after result.history)) }
+    ensures run { IsTrue (is_some (file_from result.start result.history)) }
+    ensures start { result.start ≡ (starts (R.shown reach.old).shape).file (file_no file.0) }
     ensures number { result.number ≡ file_no file.0 }
     ensures home { result.home ≡ (R.shown reach.old).home }
     ensures taken { R.shown reach.new ≡ record (R.shown reach.old) { hands = record (R.shown reach.old).hands { file = Some (record { number = file_no file.0; history = result.history }) } } }

@@ -19,7 +19,7 @@ use Rattle.phys_frames.specs.Memory.{Memory, FolioValue, frames_in, with_folio, 
 use Rattle.std.proofs.lemmas.Nat.{pow_pos}
 use Rattle.ho_events.specs.Lists.{only, upto, between, pieces, same_bytes, firsts}
 use Rattle.ho_events.specs.File.{FileState, file_step, grows_frozen, is_too_big, touched_holes, holes, indexes, runs_of, filled, overwritten, new_file}
-use Rattle.ho_events.specs.History.{run_from, then_entry, file_after}
+use Rattle.ho_events.specs.History.{run_from, then_entry, file_from}
 use Rattle.ho_events.specs.Slips.{entry_at}
 use Rattle.ho_events.specs.declared.slip.At.{At}
 use Rattle.ho_events.specs.declared.entry.Place.{Place as Spot}
@@ -36,12 +36,12 @@ use Rattle.memfd_file.specs.FileShown.{bytes_in, runs_in, content_shown, shown, 
 use Rattle.memfd_file.specs.declared.content.Content.{Content}
 
 -- a file without entries is absent
-pub absent_keeps : (home : HomeId) → KeepsFile [] home None
+pub absent_keeps : (home : HomeId) → KeepsFile None [] home None
 unfolding run_from
 absent_keeps home = record { replayed = refl; sound = tt; at_home = tt }
 
-pub keeps_run : (h : List Entry) → (home : HomeId) → (c : Option Content) → KeepsFile h home c → IsTrue (is_some (file_after h))
-keeps_run h home c k = rw k.replayed refl
+pub keeps_run : (start : Option FileState) → (h : List Entry) → (home : HomeId) → (c : Option Content) → KeepsFile start h home c → IsTrue (is_some (file_from start h))
+keeps_run start h home c k = rw k.replayed refl
 
 -- the size of the bytes that are shown
 pub size_shown : (folio : Option FolioValue) → (size : ℕ) → HasPage folio size → size ≤ PAGE_BYTES → length (bytes_in folio size) ≡ size
@@ -337,22 +337,22 @@ page_home m n c r h s within e =
     ∙ ap (λ o. with_page_home m (finmap.get (runs_in o) 0) (page_of (bytes_in o c.size))) (sym h)
 
 -- a turn that was noted, by the step that it takes
-pub turn_ran : (h h2 : List Entry) → (e : Entry) → (home : HomeId) → (c : Option Content) → (event : Event) → (reply : Reply) → (at : At) → (last : ℕ) → (object : Spot) → (s : Option FileState) →
-    KeepsFile h home c → h2 ≡ h ++ e ∷ [] → e ≡ entry_at at last object event reply → file_step (shown c) event reply ≡ Some s → file_after h2 ≡ Some s
-turn_ran h h2 e home c event reply at last object s k kept told step =
-    ap file_after kept ∙ run_push file_step (Some None) h e ∙ ap (λ o. then_entry file_step o e) k.replayed
+pub turn_ran : (start : Option FileState) → (h h2 : List Entry) → (e : Entry) → (home : HomeId) → (c : Option Content) → (event : Event) → (reply : Reply) → (at : At) → (last : ℕ) → (object : Spot) → (s : Option FileState) →
+    KeepsFile start h home c → h2 ≡ h ++ e ∷ [] → e ≡ entry_at at last object event reply → file_step (shown c) event reply ≡ Some s → file_from start h2 ≡ Some s
+turn_ran start h h2 e home c event reply at last object s k kept told step =
+    ap (file_from start) kept ∙ run_push file_step (Some start) h e ∙ ap (λ o. then_entry file_step o e) k.replayed
     ∙ ap (λ d. file_step (shown c) d.event d.reply) told ∙ step
 
-pub turn_noted : (h h2 : List Entry) → (e : Entry) → (home : HomeId) → (c d : Option Content) → (event : Event) → (reply : Reply) → (at : At) → (last : ℕ) → (object : Spot) →
-    KeepsFile h home c → h2 ≡ h ++ e ∷ [] → e ≡ entry_at at last object event reply → file_step (shown c) event reply ≡ Some (shown d) → SoundIfThere d → AtHome home d → KeepsFile h2 home d
-turn_noted h h2 e home c d event reply at last object k kept told step sound at_home = record {
-  replayed = turn_ran h h2 e home c event reply at last object (shown d) k kept told step;
+pub turn_noted : (start : Option FileState) → (h h2 : List Entry) → (e : Entry) → (home : HomeId) → (c d : Option Content) → (event : Event) → (reply : Reply) → (at : At) → (last : ℕ) → (object : Spot) →
+    KeepsFile start h home c → h2 ≡ h ++ e ∷ [] → e ≡ entry_at at last object event reply → file_step (shown c) event reply ≡ Some (shown d) → SoundIfThere d → AtHome home d → KeepsFile start h2 home d
+turn_noted start h h2 e home c d event reply at last object k kept told step sound at_home = record {
+  replayed = turn_ran start h h2 e home c event reply at last object (shown d) k kept told step;
   sound = sound;
   at_home = at_home;
 }
 
-pub some_run : (h : List Entry) → (s : Option FileState) → file_after h ≡ Some s → IsTrue (is_some (file_after h))
-some_run h s e = rw e refl
+pub some_run : (start : Option FileState) → (h : List Entry) → (s : Option FileState) → file_from start h ≡ Some s → IsTrue (is_some (file_from start h))
+some_run start h s e = rw e refl
 
 -- a step of the file that is there, by what the event is
 pub step_at : (o : Option Content) → (b : Content) → (event same : Event) → (reply : Reply) → (s : Option (Option FileState)) → o ≡ Some b → event ≡ same → file_step (Some (content_shown b)) same reply ≡ s → file_step (shown o) event reply ≡ s
@@ -363,8 +363,8 @@ none_of : (c : Option Content) → shown c ≡ None → c ≡ None
 none_of None h = refl
 none_of (Some c) h = absurd cc
 
-pub absent_shown : (h h2 : List Entry) → (home : HomeId) → (c : Option Content) → h ≡ h2 → KeepsFile h home c → MatchOption (file_after h2) ⊥ (λ s. s ≡ None) → c ≡ None
-absent_shown h h2 home c e k absent = none_of c (subst (λ o. MatchOption o ⊥ (λ s. s ≡ None)) (sym (ap file_after e) ∙ k.replayed) absent)
+pub absent_shown : (start : Option FileState) → (h : List Entry) → (home : HomeId) → (c : Option Content) → KeepsFile start h home c → MatchOption (file_from start h) ⊥ (λ s. s ≡ None) → c ≡ None
+absent_shown start h home c k absent = none_of c (subst (λ o. MatchOption o ⊥ (λ s. s ≡ None)) k.replayed absent)
 
 pub becomes : (o d : Option Content) → (kind : Kind) → (order : Order) → (size : ℕ) → (runs : List Pfn) → (c : Content) → o ≡ None → kind ≡ Memfd → runs ≡ [] → content_shown c ≡ new_file Memfd 0 0 [] → order.0 ≡ 0 → size ≡ 0 → d ≡ Some c → file_step (shown o) (FileInit kind order size runs) Ok ≡ Some (shown d)
 becomes o d kind order size runs c none is empty state ho hs there =
@@ -390,6 +390,6 @@ bytes_after f g off new fills h =
     sym (ap (λ s. s.bytes) (same_Some (record f { bytes = overwritten off new f.bytes; runs = filled (touched_holes f off (length new)) (firsts fills) f.runs }) g
     (only_some _ (Some (record f { bytes = overwritten off new f.bytes; runs = filled (touched_holes f off (length new)) (firsts fills) f.runs })) (Some g) h)))
 
-pub absent_is : MatchOption (file_after []) ⊥ (λ s. s ≡ None)
+pub absent_is : MatchOption (file_from None []) ⊥ (λ s. s ≡ None)
 unfolding run_from
 absent_is = refl

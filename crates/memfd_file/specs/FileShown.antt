@@ -8,7 +8,7 @@ use Rattle.ho_base.specs.declared.numbers.Kind.TheVariants.{Memfd}
 use Rattle.phys_frames.specs.Homes.{HomeId}
 use Rattle.phys_frames.specs.Memory.{FolioValue, with_bytes, written}
 use Rattle.ho_events.specs.File.{FileState}
-use Rattle.ho_events.specs.History.{file_after}
+use Rattle.ho_events.specs.History.{file_from}
 use Rattle.ho_events.specs.declared.entry.Entry.{Entry}
 use Rattle.memfd_file.specs.Files.{page_of}
 use Rattle.memfd_file.specs.declared.content.Content.{Content}
@@ -80,8 +80,8 @@ put c off new = record c {
   size = max c.size (off + length new);
 }
 
--- the history is a run to the state that the parts show
-pub record KeepsFile (history : List Entry) (home : HomeId) (content : Option Content) : Type 0 where
-  pub replayed : file_after history ≡ Some (shown content)
+-- the history is a run from the start to the state that the parts show
+pub record KeepsFile (start : Option FileState) (history : List Entry) (home : HomeId) (content : Option Content) : Type 0 where
+  pub replayed : file_from start history ≡ Some (shown content)
   pub sound : SoundIfThere content
   pub at_home : AtHome home content

@@ -3,16 +3,17 @@ use Rattle.std.specs.Prelude.{ℕ, List, Option, MatchOption}
 use Rattle.phys_frames.specs.Homes.{HomeId}
 use Rattle.ho_events.specs.declared.entry.Entry.{Entry}
 use Rattle.ho_events.specs.File.{FileState}
-use Rattle.ho_events.specs.History.{file_after}
+use Rattle.ho_events.specs.History.{file_from}
 
--- a file: its object's number, the home of every folio that it is given, its history, and how many more entries
--- there is room for
+-- a file: its object's number, the home of every folio that it is given, its state before the first entry of its
+-- history, that history, and how many more entries there is room for
 pub record FileValue : Type 0 where
   pub number : ℕ
   pub home : HomeId
+  pub start : Option FileState
   pub history : List Entry
   pub room : ℕ
 
--- the file is in a state of which a fact holds: its history is a run of its steps to that state
+-- the file is in a state of which a fact holds: its history is a run of its steps from its start to that state
 abbrev pub FileIs : FileValue → (Option FileState → Type 0) → Type 0
-FileIs f P = MatchOption (file_after f.history) ⊥ P
+FileIs f P = MatchOption (file_from f.start f.history) ⊥ P

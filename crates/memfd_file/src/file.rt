@@ -4,7 +4,7 @@
 ghost use Rattle.std.specs.Prelude.{◌≡◌, ◌+◌, ◌<◌, ◌≤◌, ◌^◌, ◌++◌, ◌∷◌, [], true, None, Some, IsSome, OnOk, IsTrue, is_some, length, option_map, vec_len, vec_capacity};
 ghost use Rattle.ho_base.specs.declared.limits.TheConstants.{PAGE_BYTES};
 ghost use Rattle.ho_base.specs.declared.numbers.Kind.TheVariants.{Memfd};
-ghost use Rattle.ho_events.specs.History.{last_stamp, file_after};
+ghost use Rattle.ho_events.specs.History.{last_stamp, file_from};
 ghost use Rattle.ho_events.specs.File.{touched_holes};
 ghost use Rattle.ho_events.specs.Sequences.{object_at, file_content};
 ghost use Rattle.ho_events.specs.Slips.{entry_at, reply_runs};
@@ -27,42 +27,52 @@ use ho_events::slip::{Slip, Turned};
 use phys_frames::{Folio, Frames, Home};
 use std::alloc::Global;
 use std::marker::Model;
+use std::snapshot::Snapshot;
 
 /// A file, or a place for one, with the history of all turns on it. Contracts see its number, the home of every
-/// folio that it is given, that history, and how much more fits; its state is where the history leads.
+/// folio that it is given, its state before the first of these turns, that history, and how much more fits; its
+/// state is where the history leads from there.
 pub struct FileObject {
     number: ObjectNo,
     home: Home,
+    start: Snapshot<Option<Content>>,
     /// The file; none where it is absent.
     content: Option<Content>,
     history: Vec<Entry>,
 }
 
 impl Model for FileObject {
+    ghost use Rattle.std.specs.Coded.{codes};
+    ghost use Rattle.std.specs.FinMap as finmap;
     ghost use Rattle.std.specs.Prelude.{◌-◌};
     ghost use Rattle.std.specs.Vec.{vec_len, vec_capacity};
     ghost use Rattle.memfd_file.specs.FileValues.{FileValue};
-    ghost use Rattle.memfd_file.specs.FileShown.{KeepsFile};
+    ghost use Rattle.memfd_file.specs.FileShown.{KeepsFile, shown};
 
     ghost Value = { FileValue };
 
-    ghost view = { λ f. record { number = f.number.0; home = f.home; history = f.history.items; room = vec_capacity f.history - vec_len f.history } };
+    ghost coded = { Prim.hlevel (codes, finmap.code) };
 
-    ghost invariant = { λ f. KeepsFile f.history.items f.home f.content };
+    ghost view = { λ f. record { number = f.number.0; home = f.home; start = shown f.start.value; history = f.history.items; room = vec_capacity f.history - vec_len f.history } };
+
+    ghost invariant = { λ f. KeepsFile (shown f.start.value) f.history.items f.home f.content };
 }
 
 impl FileObject {
-    /// An absent file with no history. It takes no memory.
+    /// A file with no history that begins absent. It takes no memory.
     pub fn absent(object: ObjectNo, home: Home, alloc: Global) -> FileObject
         ensures number { result.number ≡ object.0 }
         ensures home { result.home ≡ home }
+        ensures start { result.start ≡ None }
         ensures history { result.history ≡ [] }
         ensures absent { FileIs result (λ s. s ≡ None) }
     {
+        let content = None;
         FileObject {
             number: object,
             home,
-            content: None,
+            start: Snapshot::of(&content),
+            content,
             history: Vec::new(alloc),
         }
     }
@@ -72,6 +82,7 @@ impl FileObject {
         ensures entries { OnOk result (entries ≤ self.new.room) }
         ensures history { self.new.history ≡ self.old.history }
         ensures number { self.new.number ≡ self.old.number }
+        ensures start { self.new.start ≡ self.old.start }
         ensures home { self.new.home ≡ self.old.home }
     {
         match self.history.reserve(entries as usize) {
@@ -84,7 +95,7 @@ impl FileObject {
     #[tactic(auto, using(crate::proofs::FileSteps::keeps_run))]
     pub fn entries(&self) -> &[Entry]
         ensures value { result.now ≡ self.now.history }
-        ensures run { IsTrue (is_some (file_after self.now.history)) }
+        ensures run { IsTrue (is_some (file_from self.now.start self.now.history)) }
     {
         let _ = &self.content;
         self.history.as_slice()
@@ -93,7 +104,7 @@ impl FileObject {
     /// What is told of the file; none where it is absent.
     pub fn facts(&self) -> Option<Facts>
         ensures exact { FileIs self.now (λ s. result ≡ option_map facts_of s) }
-        ensures content { file_content (file_after self.now.history) ≡ content_told result }
+        ensures content { file_content (file_from self.now.start self.now.history) ≡ content_told result }
     {
         match &self.content {
             None => None,
@@ -162,9 +173,10 @@ impl FileObject {
         ensures told { result.entry ≡ entry_at slip.at (last_stamp self.old.history) (object_at self.old.number) (FileInit kind order size []) Ok }
         ensures kept { self.new.history ≡ self.old.history ++ result.entry ∷ [] }
         ensures number { self.new.number ≡ self.old.number }
+        ensures start { self.new.start ≡ self.old.start }
         ensures home { self.new.home ≡ self.old.home }
         ensures room { self.new.room + 1 ≡ self.old.room }
-        ensures run { IsTrue (is_some (file_after self.new.history)) }
+        ensures run { IsTrue (is_some (file_from self.new.start self.new.history)) }
     {
         let (at, own, copy, value) = slip.open();
         place(&mut self.content, Content::new());
@@ -207,9 +219,10 @@ impl FileObject {
         ensures told { result.entry ≡ entry_at slip.at (last_stamp self.old.history) (object_at self.old.number) (FileWrite off bytes.now (first_frames (fills_used result.value fills.old.items))) result.value }
         ensures kept { self.new.history ≡ self.old.history ++ result.entry ∷ [] }
         ensures number { self.new.number ≡ self.old.number }
+        ensures start { self.new.start ≡ self.old.start }
         ensures home { self.new.home ≡ self.old.home }
         ensures room { self.new.room + 1 ≡ self.old.room }
-        ensures run { IsTrue (is_some (file_after self.new.history)) }
+        ensures run { IsTrue (is_some (file_from self.new.start self.new.history)) }
     {
         let (at, own, copy, value) = slip.open();
         let mut runs = own.event_runs;
@@ -248,9 +261,10 @@ impl FileObject {
         ensures told { result.entry ≡ entry_at slip.at (last_stamp self.old.history) (object_at self.old.number) (FilePin []) result.value }
         ensures kept { self.new.history ≡ self.old.history ++ result.entry ∷ [] }
         ensures number { self.new.number ≡ self.old.number }
+        ensures start { self.new.start ≡ self.old.start }
         ensures home { self.new.home ≡ self.old.home }
         ensures room { self.new.room + 1 ≡ self.old.room }
-        ensures run { IsTrue (is_some (file_after self.new.history)) }
+        ensures run { IsTrue (is_some (file_from self.new.start self.new.history)) }
     {
         let (at, own, copy, value) = slip.open();
         let reply = match &mut self.content {
@@ -284,9 +298,10 @@ impl FileObject {
         ensures told { result.entry ≡ entry_at slip.at (last_stamp self.old.history) (object_at self.old.number) FileUnpin result.value }
         ensures kept { self.new.history ≡ self.old.history ++ result.entry ∷ [] }
         ensures number { self.new.number ≡ self.old.number }
+        ensures start { self.new.start ≡ self.old.start }
         ensures home { self.new.home ≡ self.old.home }
         ensures room { self.new.room + 1 ≡ self.old.room }
-        ensures run { IsTrue (is_some (file_after self.new.history)) }
+        ensures run { IsTrue (is_some (file_from self.new.start self.new.history)) }
     {
         let (at, own, copy, value) = slip.open();
         let reply = unpin(&mut self.content, own.reply_runs, given);
@@ -309,6 +324,7 @@ impl FileObject {
         let FileObject {
             number: _,
             home: _,
+            start: _,
             content,
             history: _,
         } = self;

@@ -11,7 +11,7 @@ use Rattle.ho_base.specs.ShapeRule.{in_scratch}
 use Rattle.phys_frames.specs.Homes.{HomeId}
 use Rattle.phys_frames.specs.Memory.{FolioValue, zero_page, with_bytes}
 use Rattle.ho_events.specs.Lists.{are_distinct, firsts}
-use Rattle.pool_core.specs.PoolFlags.{Flags, flag, with_flags, with_owned, are_different, has_run, can_be_taken, each_can_be_taken}
+use Rattle.pool_core.specs.PoolFlags.{Flags, flag, with_flags, with_one, with_owned, are_different, has_run, can_be_taken, is_loose, each_can_be_taken, each_is_loose}
 use Rattle.phys_frames.specs.Memory.{first_frames, zeroed}
 
 -- a run that stands again behind the first one, or doesn't
@@ -89,16 +89,36 @@ flags_last b (g ∷ folios) f flags =
 flag_other : (flags : List Bool) → (x p : ℕ) → (b : Bool) → (p == x) ≡ false → flag (slice_set flags x b) p ≡ flag flags p
 flag_other flags x p b h = get_or-set_other flags x p b false (eqb-false p x h)
 
-still_taken : (t : Flags) → (x p : ℕ) → (p == x) ≡ false → can_be_taken (with_owned t (slice_set t.owned x true)) p ≡ can_be_taken t p
+still_taken : (t : Flags) → (x p : ℕ) → (p == x) ≡ false → can_be_taken (with_one t true x) p ≡ can_be_taken t p
 still_taken t x p h = ap (λ b. nat_lt 0 p && nat_lt p t.shape.frames && not (in_scratch t.shape.scratch p) && not b) (flag_other t.owned x p true h)
 
-pub others_still_taken : (t : Flags) → (x : ℕ) → (runs : List Pfn) → has_run x runs ≡ false → each_can_be_taken (with_owned t (slice_set t.owned x true)) runs ≡ each_can_be_taken t runs
+pub others_still_taken : (t : Flags) → (x : ℕ) → (runs : List Pfn) → has_run x runs ≡ false → each_can_be_taken (with_one t true x) runs ≡ each_can_be_taken t runs
 unfolding has_run each_can_be_taken
 others_still_taken t x [] h = refl
 others_still_taken t x (r ∷ runs) h =
     let apart : ((r.0 == x) ≡ false) × (list_any (λ r. r.0 == x) runs ≡ false) = or_parts _ _ h in
-    ap (λ b. b && list_all (λ q. can_be_taken (with_owned t (slice_set t.owned x true)) q.0) runs) (still_taken t x r.0 apart.0)
+    ap (λ b. b && list_all (λ q. can_be_taken (with_one t true x) q.0) runs) (still_taken t x r.0 apart.0)
     ∙ ap (λ b. can_be_taken t r.0 && b) (others_still_taken t x runs apart.1)
+
+-- bringing a frame back leaves the others as they were
+still_loose : (t : Flags) → (x p : ℕ) → (p == x) ≡ false → is_loose (with_one t false x) p ≡ is_loose t p
+still_loose t x p h = ap (λ b. b && not (flag t.marked p)) (flag_other t.single x p false h)
+
+pub others_still_loose : (t : Flags) → (x : ℕ) → (runs : List Pfn) → has_run x runs ≡ false → each_is_loose (with_one t false x) runs ≡ each_is_loose t runs
+unfolding has_run each_is_loose
+others_still_loose t x [] h = refl
+others_still_loose t x (r ∷ runs) h =
+    let apart : ((r.0 == x) ≡ false) × (list_any (λ r. r.0 == x) runs ≡ false) = or_parts _ _ h in
+    ap (λ b. b && list_all (λ q. is_loose (with_one t false x) q.0) runs) (still_loose t x r.0 apart.0)
+    ∙ ap (λ b. is_loose t r.0 && b) (others_still_loose t x runs apart.1)
+
+pub first_is_loose : (t : Flags) → (r : Pfn) → (runs : List Pfn) → each_is_loose t (r ∷ runs) ≡ true → is_loose t r.0 ≡ true
+unfolding each_is_loose
+first_is_loose t r runs h = (and_parts _ _ h).0
+
+pub others_are_loose : (t : Flags) → (r : Pfn) → (runs : List Pfn) → each_is_loose t (r ∷ runs) ≡ true → each_is_loose t runs ≡ true
+unfolding each_is_loose
+others_are_loose t r runs h = (and_parts _ _ h).1
 
 pub first_can_be_taken : (t : Flags) → (r : Pfn) → (runs : List Pfn) → each_can_be_taken t (r ∷ runs) ≡ true → can_be_taken t r.0 ≡ true
 unfolding each_can_be_taken
@@ -116,28 +136,33 @@ pub taken_is_free : (t : Flags) → (p : ℕ) → can_be_taken t p ≡ true → 
 taken_is_free t p h = not-true _ (and_parts _ _ h).1
 
 -- one step of taking frames, and of bringing them back
-pub lent_step : (t u : Flags) → (r : Pfn) → (rest left : List Pfn) → u ≡ with_owned t (slice_set t.owned r.0 true) → left ≡ r ∷ rest → with_owned u (with_flags true rest u.owned) ≡ with_owned t (with_flags true left t.owned)
-lent_step t u r rest left is so =
-    ap (λ v. with_owned v (with_flags true rest v.owned)) is
-    ∙ (ap (with_owned t) (sym (flags_step true r rest t.owned)) ∙ ap (λ l. with_owned t (with_flags true l t.owned)) (sym so))
+pub owned_step : (t : Flags) → (b : Bool) → (r : Pfn) → (runs : List Pfn) → with_owned t b (r ∷ runs) ≡ with_owned (with_one t b r.0) b runs
+owned_step t b r runs = λ i. record t { owned = flags_step b r runs t.owned i; single = flags_step b r runs t.single i }
 
-pub out_step : (t u : Flags) → (out more : List FolioValue) → (f : FolioValue) → (r : Pfn) → (rest left : List Pfn) → u ≡ with_owned t (slice_set t.owned r.0 true) → f ≡ zeroed t.home r → more ≡ out ++ f ∷ [] → left ≡ r ∷ rest → more ++ map (zeroed u.home) rest ≡ out ++ map (zeroed t.home) left
+pub owned_end : (t : Flags) → (b : Bool) → (runs : List Pfn) → length runs ≡ 0 → with_owned t b runs ≡ t
+owned_end t b runs h = λ i. record t { owned = flags_end b runs t.owned h i; single = flags_end b runs t.single h i }
+
+pub lent_step : (t u : Flags) → (r : Pfn) → (rest left : List Pfn) → u ≡ with_one t true r.0 → left ≡ r ∷ rest → with_owned u true rest ≡ with_owned t true left
+lent_step t u r rest left is so = ap (λ v. with_owned v true rest) is ∙ (sym (owned_step t true r rest) ∙ ap (with_owned t true) (sym so))
+
+pub out_step : (t u : Flags) → (out more : List FolioValue) → (f : FolioValue) → (r : Pfn) → (rest left : List Pfn) → u ≡ with_one t true r.0 → f ≡ zeroed t.home r → more ≡ out ++ f ∷ [] → left ≡ r ∷ rest → more ++ map (zeroed u.home) rest ≡ out ++ map (zeroed t.home) left
 out_step t u out more f r rest left is folio pushed so =
     ap (λ v. more ++ map (zeroed v.home) rest) is
     ∙ (ap (λ l. l ++ map (zeroed t.home) rest) pushed
     ∙ (append_assoc out (f ∷ []) (map (zeroed t.home) rest)
     ∙ (ap (λ g. out ++ g ∷ map (zeroed t.home) rest) folio ∙ ap (λ l. out ++ map (zeroed t.home) l) (sym so))))
 
-pub still_free : (t u : Flags) → (r : Pfn) → (rest left : List Pfn) → u ≡ with_owned t (slice_set t.owned r.0 true) → left ≡ r ∷ rest → are_different left ≡ true → each_can_be_taken t left ≡ true → each_can_be_taken u rest ≡ true
+pub still_free : (t u : Flags) → (r : Pfn) → (rest left : List Pfn) → u ≡ with_one t true r.0 → left ≡ r ∷ rest → are_different left ≡ true → each_can_be_taken t left ≡ true → each_can_be_taken u rest ≡ true
 still_free t u r rest left is so differ free =
     ap (λ v. each_can_be_taken v rest) is
     ∙ (others_still_taken t r.0 rest (first_is_other r rest (ap are_different (sym so) ∙ differ))
     ∙ others_can_be_taken t r rest (ap (each_can_be_taken t) (sym so) ∙ free))
 
-pub back_step : (t u : Flags) → (f : FolioValue) → (rest left : List FolioValue) → u ≡ with_owned t (slice_set t.owned f.first.0 false) → left ≡ rest ++ f ∷ [] → with_owned u (with_flags false (first_frames rest) u.owned) ≡ with_owned t (with_flags false (first_frames left) t.owned)
+pub back_step : (t u : Flags) → (f : FolioValue) → (rest left : List FolioValue) → u ≡ with_one t false f.first.0 → left ≡ rest ++ f ∷ [] → with_owned u false (first_frames rest) ≡ with_owned t false (first_frames left)
 back_step t u f rest left is so =
-    ap (λ v. with_owned v (with_flags false (first_frames rest) v.owned)) is
-    ∙ (ap (with_owned t) (sym (flags_last false rest f t.owned)) ∙ ap (λ l. with_owned t (with_flags false (first_frames l) t.owned)) (sym so))
+    ap (λ v. with_owned v false (first_frames rest)) is
+    ∙ ((λ i. record t { owned = sym (flags_last false rest f t.owned) i; single = sym (flags_last false rest f t.single) i })
+    ∙ ap (λ l. with_owned t false (first_frames l)) (sym so))
 
 -- taken folios are of the home that they were taken from
 pub zeroed_at_home : (home : HomeId) → (runs : List Pfn) → (folios : List FolioValue) → folios ≡ map (zeroed home) runs → All (λ f. f.home ≡ home) folios

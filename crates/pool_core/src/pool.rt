@@ -1,17 +1,16 @@
 //! The pool: which frames are owned and which are pinned, and the history of that.
 
-ghost use Rattle.std.specs.Prelude.{◌≡◌, ◌+◌, ◌<◌, ◌≤◌, ◌^◌, ◌↔◌, ◌++◌, ◌∷◌, [], ℕ, None, Some, IfOk, IfErr, OnOk, IsTrue, is_some, length, map, nat_le};
+ghost use Rattle.std.specs.Prelude.{◌≡◌, ◌+◌, ◌<◌, ◌≤◌, ◌^◌, ◌↔◌, ◌++◌, ◌∷◌, [], ℕ, None, Some, IfOk, IfErr, OnOk, IsTrue, false, is_some, length, map, nat_le};
 ghost use Rattle.std.specs.Bool.{MatchBool};
 ghost use Rattle.std.specs.Option.{IsSome};
 ghost use Rattle.std.specs.List.{All};
 ghost use Rattle.std.specs.Vec.{vec_len, vec_capacity};
-ghost use Rattle.std.specs.FinMap as finmap;
 ghost use Rattle.ho_base.specs.Objects.{pool_no};
 ghost use Rattle.ho_base.specs.declared.numbers.Pfn.{Pfn};
 ghost use Rattle.phys_frames.specs.Memory.{AllHome, IsHome};
 ghost use Rattle.ho_events.specs.Lists.{firsts};
-ghost use Rattle.ho_events.specs.History.{last_stamp, pool_after};
-ghost use Rattle.ho_events.specs.Pool.{can_take, can_give, can_unmark, free_runs};
+ghost use Rattle.ho_events.specs.History.{last_stamp, pool_from};
+ghost use Rattle.ho_events.specs.Pool.{can_take, can_give, can_unmark, cold_pool, free_runs, is_owned};
 ghost use Rattle.ho_events.specs.Sequences.{object_at};
 ghost use Rattle.ho_events.specs.Slips.{HasRoomFor, entry_at, reply_runs};
 ghost use Rattle.ho_events.specs.declared.event.Event.TheVariants.{PoolTake, PoolGive, PoolMark, PoolUnmark};
@@ -19,6 +18,7 @@ ghost use Rattle.ho_events.specs.declared.reply.Reply.TheVariants.{Ok, Got, NoFr
 ghost use Rattle.phys_frames.specs.Memory.{first_frames, zeroed};
 ghost use Rattle.pool_core.specs.PoolValues.{PoolIs};
 
+use crate::opening::Opening;
 use crate::runs::{are_all_different, are_folios_different, list_firsts};
 use crate::table::Table;
 use ho_base::Items;
@@ -33,16 +33,21 @@ use ho_events::slip::{Slip, Turned};
 use phys_frames::{Folio, Frames, Home};
 use std::alloc::Global;
 use std::marker::Model;
+use std::snapshot::Snapshot;
 
-/// The frames of a machine, as they are owned and pinned, with the history of all turns on them. Each run is one
-/// frame: all orders are 0. Contracts see the machine's shape, the frames' home, that history, and how much more
-/// of it fits; which frames are owned and pinned is where the history leads.
+/// The frames of a machine, as they are owned and pinned, with the history of all turns on them. It may begin with
+/// runs of all orders; each run that a call takes, gives, pins or lets go is one frame, of order 0. Contracts see the
+/// machine's shape, the frames' home, the state before the first of these turns, that history, and how much more of
+/// it fits; which frames are owned and pinned is where the history leads from there.
 pub struct Pool {
     table: Table,
+    start: Snapshot<Opening>,
     history: Vec<Entry>,
 }
 
 impl Model for Pool {
+    ghost use Rattle.std.specs.Coded.{codes};
+    ghost use Rattle.std.specs.FinMap as finmap;
     ghost use Rattle.std.specs.Prelude.{◌-◌};
     ghost use Rattle.std.specs.Vec.{vec_len, vec_capacity};
     ghost use Rattle.pool_core.specs.PoolValues.{PoolValue};
@@ -50,39 +55,48 @@ impl Model for Pool {
 
     ghost Value = { PoolValue };
 
-    ghost view = { λ p. record { shape = p.table.shape; home = p.table.home; history = p.history.items; room = vec_capacity p.history - vec_len p.history } };
+    ghost coded = { Prim.hlevel (codes, finmap.code) };
 
-    ghost invariant = { λ p. KeepsPool p.table p.history.items };
+    ghost view = { λ p. record { shape = p.table.shape; home = p.table.home; start = p.start.value; history = p.history.items; room = vec_capacity p.history - vec_len p.history } };
+
+    ghost invariant = { λ p. KeepsPool p.table p.start.value p.history.items };
 }
 
 impl Pool {
-    /// A pool with no history: no frame is owned, and none is pinned. It takes memory for two flags a frame; where
-    /// that can't be had the frames come back as they were.
-    #[tactic(auto, using(crate::proofs::PoolRuns::cold_keeps))]
+    /// A pool with no history that begins cold: no frame is owned, and none is pinned. It takes memory for three
+    /// flags a frame; where that can't be had the frames come back as they were.
+    #[tactic(auto, using(crate::proofs::PoolRuns::cold_keeps, crate::proofs::PoolRuns::cold_start))]
     pub fn new(alloc: Global, frames: Frames, shape: Shape) -> Result<Pool, Frames>
         requires home { AllHome frames }
         requires count { shape.frames ≡ length frames.pages }
+        ensures start { IfOk result (λ p. p.start ≡ cold_pool shape) }
         ensures history { IfOk result (λ p. p.history ≡ []) }
         ensures shape { IfOk result (λ p. p.shape ≡ shape) }
         ensures home { IfOk result (λ p. p.home ≡ frames.home) }
         ensures kept { IfErr result (λ f. f ≡ frames) }
     {
+        let start = Opening::cold(alloc, &shape);
         match Table::new(alloc, frames, shape) {
             Ok(table) => Ok(Pool {
                 table,
+                start,
                 history: Vec::new(alloc),
             }),
             Err(frames) => Err(frames),
         }
     }
 
-    /// The frames: each that isn't owned is home. It takes no memory.
+    /// The frames: each that no owned run holds is home. It takes no memory.
     pub fn dismantle(self) -> Frames
         ensures home { result.home ≡ self.home }
         ensures count { length result.pages ≡ self.shape.frames }
-        ensures free { PoolIs self (λ s. (p : Pfn) → p.0 < self.shape.frames → finmap.get s.owned p.0 ≡ None → IsHome result p) }
+        ensures free { PoolIs self (λ s. (p : Pfn) → p.0 < self.shape.frames → is_owned s p.0 ≡ false → IsHome result p) }
     {
-        let Pool { table, history: _ } = self;
+        let Pool {
+            table,
+            start: _,
+            history: _,
+        } = self;
         table.into_frames()
     }
 
@@ -90,6 +104,7 @@ impl Pool {
     pub fn reserve(&mut self, entries: u32) -> Result<(), NoMemory>
         ensures entries { OnOk result (entries ≤ self.new.room) }
         ensures history { self.new.history ≡ self.old.history }
+        ensures start { self.new.start ≡ self.old.start }
         ensures home { self.new.home ≡ self.old.home }
         ensures shape { self.new.shape ≡ self.old.shape }
     {
@@ -117,7 +132,7 @@ impl Pool {
     #[tactic(auto, using(crate::proofs::PoolRuns::keeps_is_run))]
     pub fn entries(&self) -> &[Entry]
         ensures value { result.now ≡ self.now.history }
-        ensures run { IsTrue (is_some (pool_after self.now.shape self.now.history)) }
+        ensures run { IsTrue (is_some (pool_from self.now.start self.now.history)) }
     {
         self.history.as_slice()
     }
@@ -179,10 +194,11 @@ impl Pool {
         ensures count { MatchBool result.value (length (reply_runs result.entry.reply) ≡ count) (reply_runs result.entry.reply ≡ []) }
         ensures folios { out.new.items ≡ out.old.items ++ map (zeroed self.old.home) (reply_runs result.entry.reply) }
         ensures kept { self.new.history ≡ self.old.history ++ result.entry ∷ [] }
+        ensures start { self.new.start ≡ self.old.start }
         ensures home { self.new.home ≡ self.old.home }
         ensures shape { self.new.shape ≡ self.old.shape }
         ensures room { self.new.room + 1 ≡ self.old.room }
-        ensures run { IsTrue (is_some (pool_after self.new.shape self.new.history)) }
+        ensures run { IsTrue (is_some (pool_from self.new.start self.new.history)) }
     {
         let (at, own, copy, value) = slip.open();
         let mut runs = own.reply_runs;
@@ -229,10 +245,11 @@ impl Pool {
         ensures told { result.entry ≡ entry_at slip.at (last_stamp self.old.history) (object_at pool_no) (PoolGive order (first_frames folios.old.items)) Ok }
         ensures folios { folios.new.items ≡ [] }
         ensures kept { self.new.history ≡ self.old.history ++ result.entry ∷ [] }
+        ensures start { self.new.start ≡ self.old.start }
         ensures home { self.new.home ≡ self.old.home }
         ensures shape { self.new.shape ≡ self.old.shape }
         ensures room { self.new.room + 1 ≡ self.old.room }
-        ensures run { IsTrue (is_some (pool_after self.new.shape self.new.history)) }
+        ensures run { IsTrue (is_some (pool_from self.new.start self.new.history)) }
     {
         let (at, own, copy, value) = slip.open();
         let mut runs = own.event_runs;
@@ -262,10 +279,11 @@ impl Pool {
         requires object_stamp { last_stamp self.old.history < 2 ^ 63 }
         ensures told { result.entry ≡ entry_at slip.at (last_stamp self.old.history) (object_at pool_no) (PoolMark order runs.now) Ok }
         ensures kept { self.new.history ≡ self.old.history ++ result.entry ∷ [] }
+        ensures start { self.new.start ≡ self.old.start }
         ensures home { self.new.home ≡ self.old.home }
         ensures shape { self.new.shape ≡ self.old.shape }
         ensures room { self.new.room + 1 ≡ self.old.room }
-        ensures run { IsTrue (is_some (pool_after self.new.shape self.new.history)) }
+        ensures run { IsTrue (is_some (pool_from self.new.start self.new.history)) }
     {
         let (at, own, copy, value) = slip.open();
         let mut list = own.event_runs;
@@ -295,10 +313,11 @@ impl Pool {
         requires object_stamp { last_stamp self.old.history < 2 ^ 63 }
         ensures told { result.entry ≡ entry_at slip.at (last_stamp self.old.history) (object_at pool_no) (PoolUnmark order runs.now) Ok }
         ensures kept { self.new.history ≡ self.old.history ++ result.entry ∷ [] }
+        ensures start { self.new.start ≡ self.old.start }
         ensures home { self.new.home ≡ self.old.home }
         ensures shape { self.new.shape ≡ self.old.shape }
         ensures room { self.new.room + 1 ≡ self.old.room }
-        ensures run { IsTrue (is_some (pool_after self.new.shape self.new.history)) }
+        ensures run { IsTrue (is_some (pool_from self.new.start self.new.history)) }
     {
         let (at, own, copy, value) = slip.open();
         let mut list = own.event_runs;

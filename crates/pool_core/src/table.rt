@@ -8,7 +8,7 @@ ghost use Rattle.ho_base.specs.declared.numbers.Pfn.{Pfn};
 ghost use Rattle.ho_events.specs.Lists.{firsts};
 ghost use Rattle.phys_frames.specs.Memory.{AllHome, FolioValue};
 ghost use Rattle.phys_frames.specs.Homes.{HomeId};
-ghost use Rattle.pool_core.specs.PoolFlags.{flag, with_flags, with_owned, with_marked, can_be_taken, is_loose, is_held, are_different, each_can_be_taken, each_is_loose, each_is_held, free_count, lowest};
+ghost use Rattle.pool_core.specs.PoolFlags.{flag, with_flags, with_one, with_owned, with_marked, can_be_taken, is_loose, is_held, are_different, each_can_be_taken, each_is_loose, each_is_held, free_count, lowest};
 ghost use Rattle.phys_frames.specs.Memory.{zeroed, first_frames};
 
 use crate::runs::put;
@@ -19,11 +19,13 @@ use phys_frames::{Folio, Frames, Home};
 use std::alloc::Global;
 use std::marker::Model;
 
-/// The frames of a machine with a flag each for owned and pinned. A frame that isn't owned is home.
+/// The frames of a machine with a flag each for whether an owned run holds it, whether it is an owned run of order 0,
+/// and whether it is pinned. A frame that no owned run holds is home.
 pub(crate) struct Table {
     frames: Frames,
     shape: Shape,
     owned: Vec<bool>,
+    single: Vec<bool>,
     marked: Vec<bool>,
 }
 
@@ -32,9 +34,9 @@ impl Model for Table {
 
     ghost Value = { Flags };
 
-    ghost view = { λ t. record { shape = t.shape; home = t.frames.home; owned = t.owned.items; marked = t.marked.items } };
+    ghost view = { λ t. record { shape = t.shape; home = t.frames.home; owned = t.owned.items; single = t.single.items; marked = t.marked.items } };
 
-    ghost invariant = { λ t. KeepsFlags t.shape t.frames t.owned.items t.marked.items };
+    ghost invariant = { λ t. KeepsFlags t.shape t.frames t.owned.items t.single.items t.marked.items };
 }
 
 impl Table {
@@ -42,11 +44,14 @@ impl Table {
     pub(crate) fn new(alloc: Global, frames: Frames, shape: Shape) -> Result<Table, Frames>
         requires home { AllHome frames }
         requires count { shape.frames ≡ length frames.pages }
-        ensures value { IfOk result (λ t. t ≡ record { shape = shape; home = frames.home; owned = replicate shape.frames false; marked = replicate shape.frames false }) }
+        ensures value { IfOk result (λ t. t ≡ record { shape = shape; home = frames.home; owned = replicate shape.frames false; single = replicate shape.frames false; marked = replicate shape.frames false }) }
         ensures kept { IfErr result (λ f. f ≡ frames) }
     {
         let n = frames.count() as usize;
         let Ok(owned) = vec![in alloc; false; n] else {
+            return Err(frames);
+        };
+        let Ok(single) = vec![in alloc; false; n] else {
             return Err(frames);
         };
         let Ok(marked) = vec![in alloc; false; n] else {
@@ -56,6 +61,7 @@ impl Table {
             frames,
             shape,
             owned,
+            single,
             marked,
         })
     }
@@ -70,6 +76,7 @@ impl Table {
             frames,
             shape: _,
             owned: _,
+            single: _,
             marked: _,
         } = self;
         frames
@@ -117,25 +124,27 @@ impl Table {
     fn lend(&mut self, p: Pfn) -> Folio
         requires in_range { p.0 < self.old.shape.frames }
         requires free { flag self.old.owned p.0 ≡ false }
-        ensures value { self.new ≡ with_owned self.old (slice_set self.old.owned p.0 true) }
+        ensures value { self.new ≡ with_one self.old true p.0 }
         ensures folio { result ≡ zeroed self.old.home p }
     {
         law_of_one_frame();
         let mut folio = self.frames.take(p, Order(0));
         folio.zero();
         self.owned[p.0 as usize] = true;
+        self.single[p.0 as usize] = true;
         folio
     }
 
     /// Brings a folio home: its frame is owned no more.
     fn take_back(&mut self, folio: Folio)
         requires { folio.home ≡ self.old.home }
-        ensures { self.new ≡ with_owned self.old (slice_set self.old.owned folio.first.0 false) }
+        ensures { self.new ≡ with_one self.old false folio.first.0 }
     {
         law_of_giving();
         let first = folio.first();
         self.frames.give(folio);
         self.owned[first.0 as usize] = false;
+        self.single[first.0 as usize] = false;
     }
 
     /// Puts the lowest frames that can be taken into an empty list, up to as many as are asked for, and tells
@@ -161,13 +170,13 @@ impl Table {
         runs.len() == wanted
     }
 
-    #[tactic(auto, using(crate::proofs::PoolLists::flags_step, crate::proofs::PoolLists::flags_end, crate::proofs::PoolLists::first_is_other, crate::proofs::PoolLists::others_differ, crate::proofs::PoolLists::others_still_taken, crate::proofs::PoolLists::first_can_be_taken, crate::proofs::PoolLists::others_can_be_taken, crate::proofs::PoolLists::taken_in_range, crate::proofs::PoolLists::taken_is_free))]
+    #[tactic(auto, using(crate::proofs::PoolLists::owned_step, crate::proofs::PoolLists::owned_end, crate::proofs::PoolLists::first_is_other, crate::proofs::PoolLists::others_differ, crate::proofs::PoolLists::others_still_taken, crate::proofs::PoolLists::first_can_be_taken, crate::proofs::PoolLists::others_can_be_taken, crate::proofs::PoolLists::taken_in_range, crate::proofs::PoolLists::taken_is_free))]
     /// Takes frames, each of which can be taken. The list has room for their folios.
     pub(crate) fn lend_all(&mut self, runs: &[Pfn], out: &mut Vec<Folio>)
         requires different { are_different runs.now ≡ true }
         requires free { each_can_be_taken self.old runs.now ≡ true }
         requires room { vec_len out.old + length runs.now ≤ vec_capacity out.old }
-        ensures value { self.new ≡ with_owned self.old (with_flags true runs.now self.old.owned) }
+        ensures value { self.new ≡ with_owned self.old true runs.now }
         ensures folios { out.new.items ≡ out.old.items ++ map (zeroed self.old.home) runs.now }
         ensures capacity { vec_capacity out.old ≤ vec_capacity out.new }
     {
@@ -179,11 +188,11 @@ impl Table {
         }
     }
 
-    #[tactic(auto, using(crate::proofs::PoolLists::flags_last, crate::proofs::PoolLists::flags_end))]
+    #[tactic(auto, using(crate::proofs::PoolLists::owned_end))]
     /// Brings folios home, whose frames are owned no more. The list is empty afterwards.
     pub(crate) fn take_all_back(&mut self, folios: &mut Vec<Folio>)
         requires { All (λ f. f.home ≡ self.old.home) folios.old.items }
-        ensures value { self.new ≡ with_owned self.old (with_flags false (first_frames folios.old.items) self.old.owned) }
+        ensures value { self.new ≡ with_owned self.old false (first_frames folios.old.items) }
         ensures empty { folios.new.items ≡ [] }
         ensures capacity { vec_capacity folios.new ≡ vec_capacity folios.old }
     {
@@ -206,7 +215,7 @@ impl Table {
         set_all(&mut self.marked, runs, false);
     }
 
-    /// Whether each of these frames is owned and not pinned.
+    /// Whether each of these frames is an owned run of order 0 and not pinned.
     #[tactic(auto, unfolding(crate::specs::PoolFlags::each_is_loose))]
     pub(crate) fn are_loose(&self, runs: &[Pfn]) -> bool
         ensures { result ≡ each_is_loose self.now runs.now }
@@ -214,7 +223,7 @@ impl Table {
         runs.iter().all(|run| self.is_loose(*run))
     }
 
-    /// Whether each of the frames of these folios is owned and not pinned.
+    /// Whether each of the frames of these folios is an owned run of order 0 and not pinned.
     #[tactic(auto, unfolding(crate::specs::PoolFlags::each_is_loose))]
     pub(crate) fn are_folios_loose(&self, folios: &[Folio]) -> bool
         ensures { result ≡ each_is_loose self.now (first_frames folios.now) }
@@ -225,7 +234,7 @@ impl Table {
             .all(|run| self.is_loose(run))
     }
 
-    /// Whether each of these frames is owned and pinned.
+    /// Whether each of these frames is an owned run of order 0 and pinned.
     #[tactic(auto, unfolding(crate::specs::PoolFlags::each_is_held))]
     pub(crate) fn are_held(&self, runs: &[Pfn]) -> bool
         ensures { result ≡ each_is_held self.now runs.now }
@@ -233,18 +242,18 @@ impl Table {
         runs.iter().all(|run| self.is_held(*run))
     }
 
-    /// Whether a frame is owned and not pinned.
+    /// Whether a frame is an owned run of order 0 and not pinned.
     fn is_loose(&self, run: Pfn) -> bool
         ensures { result ≡ is_loose self.now run.0 }
     {
-        flag_of(self.owned.as_slice(), run) && !flag_of(self.marked.as_slice(), run)
+        flag_of(self.single.as_slice(), run) && !flag_of(self.marked.as_slice(), run)
     }
 
-    /// Whether a frame is owned and pinned.
+    /// Whether a frame is an owned run of order 0 and pinned.
     fn is_held(&self, run: Pfn) -> bool
         ensures { result ≡ is_held self.now run.0 }
     {
-        flag_of(self.owned.as_slice(), run) && flag_of(self.marked.as_slice(), run)
+        flag_of(self.single.as_slice(), run) && flag_of(self.marked.as_slice(), run)
     }
 }
 

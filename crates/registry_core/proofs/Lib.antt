@@ -1,4 +1,6 @@
+pub mod FileNumbers
 pub mod FirstOf
 pub mod RegistryAnswers
 pub mod RegistryRuns
 pub mod RegistrySteps
+pub mod SlotMaps

@@ -1,144 +1,104 @@
 -- How the registry's parts change with its state.
-use Rattle.std.proofs.Common.{◌≡◌, ℕ, ◌<◌, ◌&&◌, ◌||◌, ◌==◌, Bool, true, false, cond, not, nat_lt, List, [], ◌∷◌, ◌++◌, map, length, slice_index_or, slice_set, filter, refl, ap, sym, ◌∙◌, arith, IsTrue, is_none, subst}
-use Rattle.std.specs.Prelude.{Option, None, Some}
+use Rattle.std.proofs.Common.{◌≡◌, ℕ, ◌<◌, ◌&&◌, ◌==◌, Bool, true, false, cond, not, nat_lt, List, [], ◌∷◌, ◌++◌, length, slice_set, filter, refl, ap, sym, ◌∙◌, arith, IsTrue, is_some}
+use Rattle.std.specs.Prelude.{Option, None, Some, option_map}
 use Rattle.std.specs.Option.{MatchOption}
-use Rattle.std.specs.Ordering.{nat_cmp, eq_by_cmp}
-use Rattle.std.specs.Cmp.{nat_cmp_total}
+use Rattle.std.specs.FinMap as finmap
 use Rattle.std.specs.FinSet as finset
-use Rattle.std.proofs.lemmas.Grind.{common_steps}
 use Rattle.std.proofs.lemmas.Bool.Decides.{nat_tests}
 use Rattle.ho_base.specs.declared.limits.TheConstants.{OUT_SLOTS, FILES}
 use Rattle.ho_base.specs.declared.numbers.SlotNo.{SlotNo}
 use Rattle.ho_base.specs.declared.numbers.FileNo.{FileNo}
+use Rattle.ho_events.specs.ByName.{among}
 use Rattle.ho_events.specs.Lists.{same_bytes, only, is_just}
-use Rattle.ho_events.specs.Registry.{RegistryState, slot_of, without_name, least_free_slot, least_free_file, registry_step}
-use Rattle.ho_events.specs.History.{registry_after}
+use Rattle.ho_events.specs.Registry.{RegistryState, least_free_slot, least_free_file, registry_step}
+use Rattle.ho_events.specs.History.{registry_from}
 use Rattle.ho_events.specs.declared.entry.Entry.{Entry}
+use Rattle.ho_events.specs.declared.event.Event.{Event}
 use Rattle.ho_events.specs.declared.event.Event.TheVariants.{RegCreate, RegDropName, RegNewFile, RegFreeFile}
+use Rattle.ho_events.specs.declared.reply.Reply.{Reply}
 use Rattle.ho_events.specs.declared.reply.Reply.TheVariants.{Ok, OkSlot, OkFile}
-use Rattle.registry_core.proofs.RegistryRuns.{turn_shows, left_true, right_true}
-use Rattle.registry_core.proofs.RegistryAnswers.{both, eqb_same}
-use Rattle.ho_events.proofs.Ties.{tied_is}
+use Rattle.registry_core.proofs.FileNumbers.{length_set, numbers_set, numbers_clear}
+use Rattle.registry_core.proofs.RegistryAnswers.{eqb_same}
+use Rattle.registry_core.proofs.RegistryRuns.{shown_at, turn_shows}
+use Rattle.registry_core.proofs.SlotMaps.{left_true, right_true, get_slots, slots_push, apart_push, slots_without, apart_without, none_among}
 use Rattle.registry_core.specs.Registries.{IsOutgoing, IsInUse}
-use Rattle.registry_core.specs.RegistryShown.{named, have_out_slots, ShowsRegistry, KeepsRegistry}
+use Rattle.registry_core.specs.RegistryShown.{Lists, slots_of, numbers_of, shown, have_out_slots, KeepsRegistry}
 
-at_state : (P : RegistryState → Type 0) → (o : Option RegistryState) → (s : RegistryState) → o ≡ Some s → P s → MatchOption o ⊥ P
-at_state P o s h p = subst (λ x. MatchOption x ⊥ P) (sym h) p
+-- a step, by the event and the reply of its entry
+step_at : (s t : RegistryState) (e : Entry) (event : Event) (reply : Reply) → e.event ≡ event → e.reply ≡ reply → registry_step s event reply ≡ Some t → registry_step s e.event e.reply ≡ Some t
+step_at s t e event reply ee er h = ap (λ x. registry_step s x e.reply) ee ∙ ap (registry_step s event) er ∙ h
 
 -- one more name
-named_push : (names : List (List ℕ × SlotNo)) → (e : List ℕ × SlotNo) → map named (names ++ e ∷ []) ≡ map named names ++ (named e) ∷ []
-named_push [] e = refl
-named_push (d ∷ names) e = ap (λ rest. named d ∷ rest) (named_push names e)
-
-slots_push : (names : List (List ℕ × SlotNo)) → (e : List ℕ × SlotNo) → IsTrue (have_out_slots names) → e.1.0 < OUT_SLOTS → IsTrue (have_out_slots (names ++ e ∷ []))
-slots_push [] e h below = ap (λ b. b && true) (is_below e.1.0 OUT_SLOTS below)
+slots_more : (names : List (List ℕ × SlotNo)) (e : List ℕ × SlotNo) → IsTrue (have_out_slots names) → e.1.0 < OUT_SLOTS → IsTrue (have_out_slots (names ++ e ∷ []))
+slots_more [] e h below = ap (λ b. b && true) (is_below e.1.0 OUT_SLOTS below)
   where
     is_below : (a b : ℕ) → a < b → nat_lt a b ≡ true
     is_below a b h = grind (arith, nat_tests)
-slots_push (d ∷ names) e h below =
-    ap (λ b. b && have_out_slots (names ++ e ∷ [])) (left_true (nat_lt d.1.0 OUT_SLOTS) (have_out_slots names) h) ∙ slots_push names e (right_true (nat_lt d.1.0 OUT_SLOTS) (have_out_slots names) h) below
+slots_more (d ∷ names) e h below =
+    ap (λ b. b && have_out_slots (names ++ e ∷ [])) (left_true (nat_lt d.1.0 OUT_SLOTS) (have_out_slots names) h)
+    ∙ slots_more names e (right_true (nat_lt d.1.0 OUT_SLOTS) (have_out_slots names) h) below
 
-name_step : (s : RegistryState) → (name : List ℕ) → (slot : SlotNo) → slot_of name s.outgoing ≡ None → least_free_slot s.outgoing ≡ Some slot.0 → registry_step s (RegCreate name) (OkSlot slot) ≡ Some (record s { outgoing = s.outgoing ++ (record { name = name; slot = slot.0 }) ∷ [] })
+name_step : (s : RegistryState) (name : List ℕ) (slot : SlotNo) → finmap.get s.outgoing name ≡ None → least_free_slot s.outgoing ≡ Some slot.0 → registry_step s (RegCreate name) (OkSlot slot) ≡ Some (record s { outgoing = finmap.insert s.outgoing name slot.0 })
 name_step s name slot new least =
-    ap (λ b. only b (record s { outgoing = s.outgoing ++ (record { name = name; slot = slot.0 }) ∷ [] }))
-    (ap (λ x. is_none x && is_just slot.0 (least_free_slot s.outgoing)) new ∙ ap (is_just slot.0) least ∙ eqb_same slot.0)
+    ap (λ b. only b (record s { outgoing = finmap.insert s.outgoing name slot.0 }))
+    (ap (λ x. not (is_some x) && is_just slot.0 (least_free_slot s.outgoing)) new ∙ ap (is_just slot.0) least ∙ eqb_same slot.0)
 
-pub name_keeps : (h : List Entry) → (e : Entry) → (names : List (List ℕ × SlotNo)) → (used : List Bool) → (name : List ℕ) → (slot : SlotNo) → KeepsRegistry h names used → MatchOption (registry_after h) ⊥ (λ s. slot_of name s.outgoing ≡ None) → MatchOption (registry_after h) ⊥ (λ s. least_free_slot s.outgoing ≡ Some slot.0) → slot.0 < OUT_SLOTS → e.event ≡ RegCreate name → e.reply ≡ OkSlot slot → KeepsRegistry (h ++ e ∷ []) (names ++ (name, slot) ∷ []) used
-name_keeps h e names used name slot k new least below event reply = record {
-  replayed = turn_shows {R = λ s. (slot_of name s.outgoing ≡ None) × (least_free_slot s.outgoing ≡ Some slot.0)} (ShowsRegistry (names ++ (name, slot) ∷ []) used) h e names used k
-      (both (λ s. (slot_of name s.outgoing ≡ None) × (least_free_slot s.outgoing ≡ Some slot.0)) (registry_after h) (λ s p r. (p, r)) new least)
-      (λ s p r. at_state (ShowsRegistry (names ++ (name, slot) ∷ []) used) _ (record s { outgoing = s.outgoing ++ (record { name = name; slot = slot.0 }) ∷ [] })
-      (ap (λ x. registry_step s x e.reply) event ∙ ap (registry_step s (RegCreate name)) reply ∙ name_step s name slot r.0 r.1)
-      (record {
-        outgoing = ap (λ xs. xs ++ (record { name = name; slot = slot.0 }) ∷ []) p.outgoing ∙ sym (named_push names (name, slot));
-        waiting = p.waiting;
-        opened = p.opened;
-        files = p.files;
-      }));
-  flags = k.flags;
-  slots = slots_push names (name, slot) k.slots below;
-}
+pub name_keeps : (start : RegistryState) (h : List Entry) (e : Entry) (p : Lists) (name : List ℕ) (slot : SlotNo) → KeepsRegistry start h p → MatchOption (registry_from start h) ⊥ (λ s. finmap.get s.outgoing name ≡ None) → MatchOption (registry_from start h) ⊥ (λ s. least_free_slot s.outgoing ≡ Some slot.0) → slot.0 < OUT_SLOTS → e.event ≡ RegCreate name → e.reply ≡ OkSlot slot → KeepsRegistry start (h ++ e ∷ []) (record p { outgoing = p.outgoing ++ (name, slot) ∷ [] })
+name_keeps start h e p name slot k new least below event reply =
+    let is_new : finmap.get (slots_of p.outgoing) name ≡ None = shown_at (λ s. finmap.get s.outgoing name ≡ None) start h p k new in
+    let none : among name p.outgoing ≡ None = none_among _ (sym (get_slots p.outgoing name) ∙ is_new) in
+    let free : least_free_slot (slots_of p.outgoing) ≡ Some slot.0 = shown_at (λ s. least_free_slot s.outgoing ≡ Some slot.0) start h p k least in
+    record {
+      replayed = turn_shows start h e p (record p { outgoing = p.outgoing ++ (name, slot) ∷ [] }) k
+          (step_at (shown p) (shown (record p { outgoing = p.outgoing ++ (name, slot) ∷ [] })) e (RegCreate name) (OkSlot slot) event reply
+          (name_step (shown p) name slot is_new free ∙ ap (λ names. Some (record (shown p) { outgoing = names })) (sym (slots_push p.outgoing name slot none))));
+      flags = k.flags;
+      slots = slots_more p.outgoing (name, slot) k.slots below;
+      apart = apart_push p.outgoing name slot k.apart none;
+    }
 
 -- a name less
-named_without : (name : List ℕ) → (names : List (List ℕ × SlotNo)) → without_name name (map named names) ≡ map named (filter (λ e. not (same_bytes e.0 name)) names)
-named_without name [] = refl
-named_without name (e ∷ names) =
-    elim (same_bytes e.0 name) as (λ b. cond (not b) (named e ∷ without_name name (map named names)) (without_name name (map named names)) ≡ map named (cond (not b) (e ∷ filter (λ e. not (same_bytes e.0 name)) names) (filter (λ e. not (same_bytes e.0 name)) names))) [
-      | true ↦ named_without name names
-      | false ↦ ap (λ rest. named e ∷ rest) (named_without name names)
-    ]
-
-slots_without : (name : List ℕ) → (names : List (List ℕ × SlotNo)) → IsTrue (have_out_slots names) → IsTrue (have_out_slots (filter (λ e. not (same_bytes e.0 name)) names))
-slots_without name [] h = refl
-slots_without name (e ∷ names) h =
+slots_fewer : (name : List ℕ) (names : List (List ℕ × SlotNo)) → IsTrue (have_out_slots names) → IsTrue (have_out_slots (filter (λ e. not (same_bytes e.0 name)) names))
+slots_fewer name [] h = refl
+slots_fewer name (e ∷ names) h =
     elim (same_bytes e.0 name) as (λ b. IsTrue (have_out_slots (cond (not b) (e ∷ filter (λ e. not (same_bytes e.0 name)) names) (filter (λ e. not (same_bytes e.0 name)) names)))) [
-      | true ↦ slots_without name names (right_true (nat_lt e.1.0 OUT_SLOTS) (have_out_slots names) h)
-      | false ↦ ap (λ b. b && have_out_slots (filter (λ e. not (same_bytes e.0 name)) names)) (left_true (nat_lt e.1.0 OUT_SLOTS) (have_out_slots names) h) ∙ slots_without name names (right_true (nat_lt e.1.0 OUT_SLOTS) (have_out_slots names) h)
+      | true ↦ slots_fewer name names (right_true (nat_lt e.1.0 OUT_SLOTS) (have_out_slots names) h)
+      | false ↦ ap (λ b. b && have_out_slots (filter (λ e. not (same_bytes e.0 name)) names)) (left_true (nat_lt e.1.0 OUT_SLOTS) (have_out_slots names) h)
+          ∙ slots_fewer name names (right_true (nat_lt e.1.0 OUT_SLOTS) (have_out_slots names) h)
     ]
 
-pub drop_keeps : (h : List Entry) → (e : Entry) → (names : List (List ℕ × SlotNo)) → (used : List Bool) → (name : List ℕ) → KeepsRegistry h names used → MatchOption (registry_after h) ⊥ (IsOutgoing name) → e.event ≡ RegDropName name → e.reply ≡ Ok → KeepsRegistry (h ++ e ∷ []) (filter (λ e. not (same_bytes e.0 name)) names) used
-drop_keeps h e names used name k out event reply = record {
-  replayed = turn_shows {R = IsOutgoing name} (ShowsRegistry (filter (λ e. not (same_bytes e.0 name)) names) used) h e names used k out
-      (λ s p r. at_state (ShowsRegistry (filter (λ e. not (same_bytes e.0 name)) names) used) _ (record s { outgoing = without_name name s.outgoing })
-      (ap (λ x. registry_step s x e.reply) event ∙ ap (registry_step s (RegDropName name)) reply ∙ ap (λ b. only b (record s { outgoing = without_name name s.outgoing })) r)
-      (record {
-        outgoing = ap (without_name name) p.outgoing ∙ named_without name names;
-        waiting = p.waiting;
-        opened = p.opened;
-        files = p.files;
-      }));
+pub drop_keeps : (start : RegistryState) (h : List Entry) (e : Entry) (p : Lists) (name : List ℕ) → KeepsRegistry start h p → MatchOption (registry_from start h) ⊥ (IsOutgoing name) → e.event ≡ RegDropName name → e.reply ≡ Ok → KeepsRegistry start (h ++ e ∷ []) (record p { outgoing = filter (λ e. not (same_bytes e.0 name)) p.outgoing })
+drop_keeps start h e p name k out event reply = record {
+  replayed = turn_shows start h e p (record p { outgoing = filter (λ e. not (same_bytes e.0 name)) p.outgoing }) k
+      (step_at (shown p) (shown (record p { outgoing = filter (λ e. not (same_bytes e.0 name)) p.outgoing })) e (RegDropName name) Ok event reply
+      (ap (λ b. only b (record (shown p) { outgoing = finmap.remove (slots_of p.outgoing) name })) (shown_at (IsOutgoing name) start h p k out)
+      ∙ ap (λ names. Some (record (shown p) { outgoing = names })) (sym (slots_without name p.outgoing))));
   flags = k.flags;
-  slots = slots_without name names k.slots;
+  slots = slots_fewer name p.outgoing k.slots;
+  apart = apart_without name p.outgoing k.apart;
 }
 
--- a flag set or cleared
-flag_at : (used : List Bool) → (f q : ℕ) → (v : Bool) → f < length used → slice_index_or (slice_set used f v) q false ≡ cond (f == q) v (slice_index_or used q false)
-flag_at used f q v h = grind (arith, common_steps, nat_tests)
-
-set_or : (b c : Bool) → (b || c) ≡ cond b true c
-set_or true c = refl
-set_or false c = refl
-
-clear_and : (b c : Bool) → (not b && c) ≡ cond b false c
-clear_and true c = refl
-clear_and false c = refl
-
-pub file_keeps : (h : List Entry) → (e : Entry) → (names : List (List ℕ × SlotNo)) → (used : List Bool) → (f : FileNo) → KeepsRegistry h names used → MatchOption (registry_after h) ⊥ (λ s. least_free_file s.files ≡ Some f.0) → f.0 < FILES → e.event ≡ RegNewFile → e.reply ≡ OkFile f → KeepsRegistry (h ++ e ∷ []) names (slice_set used f.0 true)
-file_keeps h e names used f k least below event reply =
-    let within : f.0 < length used = omega (arith, k.flags) in
+-- a number taken;  given back
+pub file_keeps : (start : RegistryState) (h : List Entry) (e : Entry) (p : Lists) (f : FileNo) → KeepsRegistry start h p → MatchOption (registry_from start h) ⊥ (λ s. least_free_file s.files ≡ Some f.0) → f.0 < FILES → e.event ≡ RegNewFile → e.reply ≡ OkFile f → KeepsRegistry start (h ++ e ∷ []) (record p { used = slice_set p.used f.0 true })
+file_keeps start h e p f k least below event reply =
+    let free : least_free_file (numbers_of p.used) ≡ Some f.0 = shown_at (λ s. least_free_file s.files ≡ Some f.0) start h p k least in
     record {
-      replayed = turn_shows {R = λ s. least_free_file s.files ≡ Some f.0} (ShowsRegistry names (slice_set used f.0 true)) h e names used k least
-          (λ s p r. at_state (ShowsRegistry names (slice_set used f.0 true)) _ (record s { files = finset.insert s.files f.0 })
-          (ap (λ x. registry_step s x e.reply) event ∙ ap (registry_step s RegNewFile) reply
-          ∙ ap (λ b. only b (record s { files = finset.insert s.files f.0 })) (ap (is_just f.0) r ∙ eqb_same f.0))
-          (record {
-            outgoing = p.outgoing;
-            waiting = p.waiting;
-            opened = p.opened;
-            files = λ q. finset.contains-insert nat_cmp_total s.files f.0 q
-                ∙ set_or (eq_by_cmp nat_cmp q f.0) (finset.contains s.files q) ∙ ap (λ b. cond b true (finset.contains s.files q)) (tied_is q f.0)
-                ∙ ap (cond (f.0 == q) true) (p.files q) ∙ sym (flag_at used f.0 q true within);
-          }));
-      flags = grind (arith, common_steps, k.flags);
+      replayed = turn_shows start h e p (record p { used = slice_set p.used f.0 true }) k
+          (step_at (shown p) (shown (record p { used = slice_set p.used f.0 true })) e RegNewFile (OkFile f) event reply
+          (ap (λ b. only b (record (shown p) { files = finset.insert (numbers_of p.used) f.0 })) (ap (is_just f.0) free ∙ eqb_same f.0)
+          ∙ ap (λ files. Some (record (shown p) { files = files })) (numbers_set p.used f.0 k.flags below)));
+      flags = length_set p.used f.0 true k.flags;
       slots = k.slots;
+      apart = k.apart;
     }
 
-pub free_keeps : (h : List Entry) → (e : Entry) → (names : List (List ℕ × SlotNo)) → (used : List Bool) → (f : FileNo) → KeepsRegistry h names used → MatchOption (registry_after h) ⊥ (IsInUse f.0) → f.0 < FILES → e.event ≡ RegFreeFile f → e.reply ≡ Ok → KeepsRegistry (h ++ e ∷ []) names (slice_set used f.0 false)
-free_keeps h e names used f k in_use below event reply =
-    let within : f.0 < length used = omega (arith, k.flags) in
-    record {
-      replayed = turn_shows {R = IsInUse f.0} (ShowsRegistry names (slice_set used f.0 false)) h e names used k in_use
-          (λ s p r. at_state (ShowsRegistry names (slice_set used f.0 false)) _ (record s { files = finset.remove s.files f.0 })
-          (ap (λ x. registry_step s x e.reply) event ∙ ap (registry_step s (RegFreeFile f)) reply
-          ∙ ap (λ b. only b (record s { files = finset.remove s.files f.0 })) r)
-          (record {
-            outgoing = p.outgoing;
-            waiting = p.waiting;
-            opened = p.opened;
-            files = λ q. finset.contains-remove nat_cmp_total s.files f.0 q
-                ∙ clear_and (eq_by_cmp nat_cmp q f.0) (finset.contains s.files q) ∙ ap (λ b. cond b false (finset.contains s.files q)) (tied_is q f.0)
-                ∙ ap (cond (f.0 == q) false) (p.files q) ∙ sym (flag_at used f.0 q false within);
-          }));
-      flags = grind (arith, common_steps, k.flags);
-      slots = k.slots;
-    }
+pub free_keeps : (start : RegistryState) (h : List Entry) (e : Entry) (p : Lists) (f : FileNo) → KeepsRegistry start h p → MatchOption (registry_from start h) ⊥ (IsInUse f.0) → f.0 < FILES → e.event ≡ RegFreeFile f → e.reply ≡ Ok → KeepsRegistry start (h ++ e ∷ []) (record p { used = slice_set p.used f.0 false })
+free_keeps start h e p f k in_use below event reply = record {
+  replayed = turn_shows start h e p (record p { used = slice_set p.used f.0 false }) k
+      (step_at (shown p) (shown (record p { used = slice_set p.used f.0 false })) e (RegFreeFile f) Ok event reply
+      (ap (λ b. only b (record (shown p) { files = finset.remove (numbers_of p.used) f.0 })) (shown_at (IsInUse f.0) start h p k in_use)
+      ∙ ap (λ files. Some (record (shown p) { files = files })) (numbers_clear p.used f.0 k.flags below)));
+  flags = length_set p.used f.0 false k.flags;
+  slots = k.slots;
+  apart = k.apart;
+}

@@ -1,9 +1,10 @@
 -- What the registry answers.
-use Rattle.std.specs.Prelude.{ℕ, ◌<◌, List, is_some, IsTrue}
+use Rattle.std.specs.Prelude.{ℕ, ◌<◌, List, IsTrue}
 use Rattle.std.specs.Prelude.{Option, None, Some}
+use Rattle.std.specs.FinMap as finmap
 use Rattle.std.specs.FinSet as finset
 use Rattle.ho_base.specs.declared.limits.TheConstants.{OUT_SLOTS, FILES}
-use Rattle.ho_events.specs.Registry.{RegistryState, slot_of}
+use Rattle.ho_events.specs.Registry.{RegistryState}
 use Rattle.ho_events.specs.declared.reply.Reply.{Reply}
 use Rattle.ho_events.specs.declared.reply.Reply.TheVariants.{OkFile, OkSlot, FilesFull, NameTaken, SessionsFull, NoSession}
 
@@ -25,7 +26,7 @@ file_answer (Some f) = OkFile (record { 0 = f })
 
 -- a name is outgoing
 abbrev pub IsOutgoing : List ℕ → RegistryState → Type 0
-IsOutgoing name s = IsTrue (is_some (slot_of name s.outgoing))
+IsOutgoing name s = IsTrue (finmap.contains_key s.outgoing name)
 
 -- a file number is in use
 abbrev pub IsInUse : ℕ → RegistryState → Type 0

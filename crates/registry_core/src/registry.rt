@@ -1,23 +1,20 @@
 //! The registry: the names of sessions with their slots, and the file numbers in use.
 
 ghost use Rattle.std.specs.Prelude.{◌≡◌, ◌+◌, ◌<◌, ◌≤◌, ◌^◌, ◌↔◌, ◌++◌, ◌∷◌, [], None, Some, OnOk, IfOk, IfSome, IsTrue, is_some, length, not, filter, option_map, replicate, false, slice_index_or};
-ghost use Rattle.std.specs.List.{find as find_in};
-ghost use Rattle.std.specs.Vec.{vec_len, vec_capacity};
+ghost use Rattle.std.specs.FinMap as finmap;
 ghost use Rattle.ho_base.specs.declared.limits.TheConstants.{OUT_SLOTS, FILES};
 ghost use Rattle.ho_base.specs.Objects.{registry_no};
-ghost use Rattle.ho_events.specs.History.{last_stamp, registry_after};
-ghost use Rattle.ho_events.specs.Lists.{same_bytes, upto};
-ghost use Rattle.ho_events.specs.Registry.{slot_of, least_free_slot, least_free_file, registry_step};
+ghost use Rattle.ho_events.specs.History.{last_stamp, registry_from};
+ghost use Rattle.ho_events.specs.Registry.{cold_registry, least_free_slot, least_free_file, registry_step};
 ghost use Rattle.ho_events.specs.Sequences.{object_at};
 ghost use Rattle.ho_events.specs.Slips.{entry_at};
 ghost use Rattle.ho_events.specs.declared.event.Event.TheVariants.{RegCreate, RegFindOut, RegDropName, RegNewFile, RegFreeFile};
 ghost use Rattle.ho_events.specs.declared.reply.Reply.TheVariants.{Ok, OkSlot, OkFile};
 ghost use Rattle.ho_events.specs.PlainTurns.{EventIsPlain, ReplyIsPlain};
 ghost use Rattle.registry_core.specs.Registries.{create_answer, find_answer, file_answer, IsOutgoing, IsInUse, IsWithin};
-ghost use Rattle.registry_core.specs.RegistryShown.{slot_taken};
 ghost use Rattle.registry_core.specs.RegistryValues.{RegistryIs};
 
-use ho_base::limits::{FILES, OUT_SLOTS};
+use crate::parts::{Parts, free_number, free_slot, remove, unused};
 use ho_base::name::Name;
 use ho_base::numbers::{FileNo, NoMemory, ObjectNo, SlotNo};
 use ho_events::append::append_plain_turn;
@@ -29,43 +26,56 @@ use ho_events::reply::Reply;
 use ho_events::slip::{Slip, Turned};
 use std::alloc::Global;
 use std::marker::Model;
+use std::snapshot::Snapshot;
 
-/// The registry with the history of all turns on it. Contracts see that history and how many more entries
-/// fit; its state is where the history leads.
+/// The registry with the history of all turns on it. Contracts see its state before the first of these turns, that
+/// history, and how many more entries fit; its state is where the history leads from there.
 #[derive(Drop)]
 pub struct Registry {
-    /// The outgoing names with their slots, oldest first.
-    names: Vec<(Name, SlotNo)>,
-    /// For each file number whether it is in use.
-    used: Vec<bool>,
+    start: Snapshot<Parts>,
+    parts: Parts,
     history: Vec<Entry>,
 }
 
 impl Model for Registry {
+    ghost use Rattle.std.specs.Coded.{codes};
+    ghost use Rattle.std.specs.FinMap as finmap;
     ghost use Rattle.std.specs.Prelude.{◌-◌, min};
     ghost use Rattle.std.specs.Vec.{vec_len, vec_capacity};
     ghost use Rattle.registry_core.specs.RegistryValues.{RegistryValue};
-    ghost use Rattle.registry_core.specs.RegistryShown.{KeepsRegistry};
+    ghost use Rattle.registry_core.specs.RegistryShown.{lists_of, shown, KeepsRegistry};
 
     ghost Value = { RegistryValue };
 
-    ghost view = { λ r. record { history = r.history.items; room = min (vec_capacity r.history - vec_len r.history) (vec_capacity r.names - vec_len r.names) } };
+    ghost coded = { Prim.hlevel (codes, finmap.code) };
 
-    ghost invariant = { λ r. KeepsRegistry r.history.items r.names.items r.used.items };
+    ghost view = { λ r. record { start = shown (lists_of r.start.value); history = r.history.items; room = min (vec_capacity r.history - vec_len r.history) (vec_capacity r.parts.outgoing - vec_len r.parts.outgoing) } };
+
+    ghost invariant = { λ r. KeepsRegistry (shown (lists_of r.start.value)) r.history.items (lists_of r.parts) };
 }
 
 impl Registry {
-    /// A registry with no name, no file number in use and no history; no memory where it can't be had.
-    #[tactic(auto, using(crate::proofs::RegistryRuns::empty_keeps))]
+    /// A registry that begins cold, with no name, no file number in use and no history; no memory where it can't be
+    /// had.
+    #[tactic(auto, using(crate::proofs::RegistryRuns::empty_keeps, crate::proofs::RegistryRuns::cold_shown))]
     pub fn empty(alloc: Global) -> Result<Registry, NoMemory>
-        ensures { IfOk result (λ r. r.history ≡ []) }
+        ensures start { IfOk result (λ r. r.start ≡ cold_registry) }
+        ensures history { IfOk result (λ r. r.history ≡ []) }
     {
         match unused(alloc) {
-            Ok(used) => Ok(Registry {
-                names: Vec::new(alloc),
-                used,
-                history: Vec::new(alloc),
-            }),
+            Ok(used) => {
+                let parts = Parts {
+                    outgoing: Vec::new(alloc),
+                    waiting: Vec::new(alloc),
+                    opened: Vec::new(alloc),
+                    used,
+                };
+                Ok(Registry {
+                    start: Snapshot::of(&parts),
+                    parts,
+                    history: Vec::new(alloc),
+                })
+            }
             Err(NoMemory) => Err(NoMemory),
         }
     }
@@ -75,9 +85,10 @@ impl Registry {
     pub fn reserve(&mut self, entries: u32) -> Result<(), NoMemory>
         ensures entries { OnOk result (entries ≤ self.new.room) }
         ensures history { self.new.history ≡ self.old.history }
+        ensures start { self.new.start ≡ self.old.start }
     {
         if self.history.reserve(entries as usize).is_err()
-            || self.names.reserve(entries as usize).is_err()
+            || self.parts.outgoing.reserve(entries as usize).is_err()
         {
             return Err(NoMemory);
         }
@@ -88,18 +99,17 @@ impl Registry {
     #[tactic(auto, using(crate::proofs::RegistryRuns::keeps_run))]
     pub fn entries(&self) -> &[Entry]
         ensures value { result.now ≡ self.now.history }
-        ensures run { IsTrue (is_some (registry_after self.now.history)) }
+        ensures run { IsTrue (is_some (registry_from self.now.start self.now.history)) }
     {
         self.history.as_slice()
     }
 
     /// The slot of an outgoing name; none exactly where the name isn't outgoing.
-    #[tactic(auto, using(crate::proofs::RegistryRuns::slot_told, crate::proofs::RegistryRuns::slot_fits))]
     pub fn slot_of(&self, name: Name) -> Option<SlotNo>
-        ensures value { RegistryIs self.now (λ s. slot_of name s.outgoing ≡ option_map (λ x. x.0) result) }
+        ensures value { RegistryIs self.now (λ s. finmap.get s.outgoing name ≡ option_map (λ x. x.0) result) }
         ensures within { IfSome result (λ x. x.0 < OUT_SLOTS) }
     {
-        find(self.names.as_slice(), name)
+        find(self.parts.outgoing.as_slice(), name)
     }
 
     /// Whether a name is outgoing.
@@ -111,12 +121,11 @@ impl Registry {
     }
 
     /// Whether a file number is in use.
-    #[tactic(auto, using(crate::proofs::RegistryRuns::use_told))]
     pub fn in_use(&self, file: FileNo) -> bool
         requires { file.0 < FILES }
         ensures { RegistryIs self.now (λ s. IsTrue result ↔ IsInUse file.0 s) }
     {
-        self.used[file.0 as usize]
+        self.parts.used[file.0 as usize]
     }
 
     /// The least outgoing slot that has no name; none exactly where each has one.
@@ -125,7 +134,7 @@ impl Registry {
         ensures value { RegistryIs self.now (λ s. least_free_slot s.outgoing ≡ option_map (λ x. x.0) result) }
         ensures within { IfSome result (λ x. x.0 < OUT_SLOTS) }
     {
-        free_slot(self.names.as_slice())
+        free_slot(self.parts.outgoing.as_slice())
     }
 
     /// The least file number that isn't in use; none exactly where each is.
@@ -134,7 +143,7 @@ impl Registry {
         ensures value { RegistryIs self.now (λ s. least_free_file s.files ≡ option_map (λ x. x.0) result) }
         ensures within { IfSome result (λ x. x.0 < FILES) }
     {
-        free_number(self.used.as_slice())
+        free_number(self.parts.used.as_slice())
     }
 
     /// Makes an outgoing name: `NameTaken` where it is outgoing already, else `SessionsFull` where each outgoing
@@ -144,12 +153,13 @@ impl Registry {
         requires room { 0 < self.old.room }
         requires agent_stamp { slip.at.last < 2 ^ 63 }
         requires object_stamp { last_stamp self.old.history < 2 ^ 63 }
-        ensures exact { RegistryIs self.old (λ s. result.value ≡ create_answer (slot_of name s.outgoing) (least_free_slot s.outgoing)) }
+        ensures exact { RegistryIs self.old (λ s. result.value ≡ create_answer (finmap.get s.outgoing name) (least_free_slot s.outgoing)) }
         ensures within { IsWithin result.value }
         ensures told { result.entry ≡ entry_at slip.at (last_stamp self.old.history) (object_at registry_no) (RegCreate name) result.value }
         ensures kept { self.new.history ≡ self.old.history ++ result.entry ∷ [] }
         ensures room { self.old.room ≤ self.new.room + 1 }
-        ensures run { IsTrue (is_some (registry_after self.new.history)) }
+        ensures start { self.new.start ≡ self.old.start }
+        ensures run { IsTrue (is_some (registry_from self.new.start self.new.history)) }
     {
         let taken = self.slot_of(name);
         if taken.is_some() {
@@ -168,12 +178,13 @@ impl Registry {
         requires room { 0 < self.old.room }
         requires agent_stamp { slip.at.last < 2 ^ 63 }
         requires object_stamp { last_stamp self.old.history < 2 ^ 63 }
-        ensures exact { RegistryIs self.old (λ s. result.value ≡ find_answer (slot_of name s.outgoing)) }
+        ensures exact { RegistryIs self.old (λ s. result.value ≡ find_answer (finmap.get s.outgoing name)) }
         ensures within { IsWithin result.value }
         ensures told { result.entry ≡ entry_at slip.at (last_stamp self.old.history) (object_at registry_no) (RegFindOut name) result.value }
         ensures kept { self.new.history ≡ self.old.history ++ result.entry ∷ [] }
         ensures room { self.old.room ≤ self.new.room + 1 }
-        ensures run { IsTrue (is_some (registry_after self.new.history)) }
+        ensures start { self.new.start ≡ self.old.start }
+        ensures run { IsTrue (is_some (registry_from self.new.start self.new.history)) }
     {
         match self.slot_of(name) {
             Some(slot) => self.stay(slip, Event::RegFindOut(name), Reply::OkSlot(slot)),
@@ -193,7 +204,8 @@ impl Registry {
         ensures told { result.entry ≡ entry_at slip.at (last_stamp self.old.history) (object_at registry_no) RegNewFile result.value }
         ensures kept { self.new.history ≡ self.old.history ++ result.entry ∷ [] }
         ensures room { self.old.room ≤ self.new.room + 1 }
-        ensures run { IsTrue (is_some (registry_after self.new.history)) }
+        ensures start { self.new.start ≡ self.old.start }
+        ensures run { IsTrue (is_some (registry_from self.new.start self.new.history)) }
     {
         match self.least_file() {
             Some(file) => self.take_file(slip, file),
@@ -211,9 +223,10 @@ impl Registry {
         ensures told { result.entry ≡ entry_at slip.at (last_stamp self.old.history) (object_at registry_no) (RegDropName name) Ok }
         ensures kept { self.new.history ≡ self.old.history ++ result.entry ∷ [] }
         ensures room { self.old.room ≤ self.new.room + 1 }
-        ensures run { IsTrue (is_some (registry_after self.new.history)) }
+        ensures start { self.new.start ≡ self.old.start }
+        ensures run { IsTrue (is_some (registry_from self.new.start self.new.history)) }
     {
-        remove(&mut self.names, name);
+        remove(&mut self.parts.outgoing, name);
         let turned = append_plain_turn(
             &mut self.history,
             ObjectNo::REGISTRY,
@@ -236,9 +249,10 @@ impl Registry {
         ensures told { result.entry ≡ entry_at slip.at (last_stamp self.old.history) (object_at registry_no) (RegFreeFile file) Ok }
         ensures kept { self.new.history ≡ self.old.history ++ result.entry ∷ [] }
         ensures room { self.old.room ≤ self.new.room + 1 }
-        ensures run { IsTrue (is_some (registry_after self.new.history)) }
+        ensures start { self.new.start ≡ self.old.start }
+        ensures run { IsTrue (is_some (registry_from self.new.start self.new.history)) }
     {
-        self.used[file.0 as usize] = false;
+        self.parts.used[file.0 as usize] = false;
         let turned = append_plain_turn(
             &mut self.history,
             ObjectNo::REGISTRY,
@@ -251,7 +265,6 @@ impl Registry {
     }
 
     /// A turn that leaves the registry as it is.
-    #[tactic(auto, using(crate::proofs::RegistryRuns::stay_keeps, crate::proofs::RegistryRuns::keeps_run))]
     fn stay(&mut self, slip: Slip, event: Event, reply: Reply) -> Turned<Reply>
         requires stays { RegistryIs self.old (λ s. registry_step s event reply ≡ Some s) }
         requires event { EventIsPlain event }
@@ -263,7 +276,8 @@ impl Registry {
         ensures told { result.entry ≡ entry_at slip.at (last_stamp self.old.history) (object_at registry_no) event reply }
         ensures kept { self.new.history ≡ self.old.history ++ result.entry ∷ [] }
         ensures room { self.old.room ≤ self.new.room + 1 }
-        ensures run { IsTrue (is_some (registry_after self.new.history)) }
+        ensures start { self.new.start ≡ self.old.start }
+        ensures run { IsTrue (is_some (registry_from self.new.start self.new.history)) }
     {
         append_plain_turn(&mut self.history, ObjectNo::REGISTRY, slip, event, reply)
     }
@@ -271,7 +285,7 @@ impl Registry {
     /// Gives a new name the least free slot.
     #[tactic(auto, using(crate::proofs::RegistrySteps::name_keeps))]
     fn add_name(&mut self, slip: Slip, name: Name, slot: SlotNo) -> Turned<Reply>
-        requires new { RegistryIs self.old (λ s. slot_of name s.outgoing ≡ None) }
+        requires new { RegistryIs self.old (λ s. finmap.get s.outgoing name ≡ None) }
         requires least { RegistryIs self.old (λ s. least_free_slot s.outgoing ≡ Some slot.0) }
         requires within { slot.0 < OUT_SLOTS }
         requires room { 0 < self.old.room }
@@ -281,9 +295,10 @@ impl Registry {
         ensures told { result.entry ≡ entry_at slip.at (last_stamp self.old.history) (object_at registry_no) (RegCreate name) (OkSlot slot) }
         ensures kept { self.new.history ≡ self.old.history ++ result.entry ∷ [] }
         ensures room { self.old.room ≤ self.new.room + 1 }
-        ensures run { IsTrue (is_some (registry_after self.new.history)) }
+        ensures start { self.new.start ≡ self.old.start }
+        ensures run { IsTrue (is_some (registry_from self.new.start self.new.history)) }
     {
-        self.names.push((name, slot)).unwrap();
+        self.parts.outgoing.push((name, slot)).unwrap();
         append_plain_turn(
             &mut self.history,
             ObjectNo::REGISTRY,
@@ -305,9 +320,10 @@ impl Registry {
         ensures told { result.entry ≡ entry_at slip.at (last_stamp self.old.history) (object_at registry_no) RegNewFile (OkFile file) }
         ensures kept { self.new.history ≡ self.old.history ++ result.entry ∷ [] }
         ensures room { self.old.room ≤ self.new.room + 1 }
-        ensures run { IsTrue (is_some (registry_after self.new.history)) }
+        ensures start { self.new.start ≡ self.old.start }
+        ensures run { IsTrue (is_some (registry_from self.new.start self.new.history)) }
     {
-        self.used[file.0 as usize] = true;
+        self.parts.used[file.0 as usize] = true;
         append_plain_turn(
             &mut self.history,
             ObjectNo::REGISTRY,
@@ -328,59 +344,4 @@ impl Recorded for Registry {
     fn last_stamp(&self) -> u64 {
         last_stamp_of(self.history.as_slice())
     }
-}
-
-/// A flag for each file number: none is in use.
-fn unused(alloc: Global) -> Result<Vec<bool>, NoMemory>
-    ensures { IfOk result (λ used. used.items ≡ replicate FILES false) }
-{
-    match Vec::from_elem(alloc, false, FILES as usize) {
-        Ok(used) => Ok(used),
-        Err(_) => Err(NoMemory),
-    }
-}
-
-/// Takes a name out; the others stay in order.
-fn remove(names: &mut Vec<(Name, SlotNo)>, name: Name)
-    ensures items { names.new.items ≡ filter (λ e. not (same_bytes e.0 name)) names.old.items }
-    ensures capacity { vec_capacity names.new ≡ vec_capacity names.old }
-    ensures len { vec_len names.new ≤ vec_len names.old }
-{
-    names.retain(|e| e.0 != name);
-}
-
-/// Whether a name has this slot.
-fn has_slot(names: &[(Name, SlotNo)], slot: u8) -> bool
-    ensures { result ≡ slot_taken names.now slot }
-{
-    names.iter().any(|e| e.1.0 == slot)
-}
-
-/// The least outgoing slot that no name has.
-#[tactic(auto, using(crate::proofs::FirstOf::first_at, crate::proofs::FirstOf::first_none))]
-fn free_slot(names: &[(Name, SlotNo)]) -> Option<SlotNo>
-    ensures value { find_in (λ k. not (slot_taken names.now k)) (upto OUT_SLOTS) ≡ option_map (λ x. x.0) result }
-    ensures within { IfSome result (λ x. x.0 < OUT_SLOTS) }
-{
-    for slot in 0..OUT_SLOTS as u8 {
-        if !has_slot(names, slot) {
-            return Some(SlotNo(slot));
-        }
-    }
-    None
-}
-
-/// The least file number whose flag isn't set.
-#[tactic(auto, using(crate::proofs::FirstOf::first_at, crate::proofs::FirstOf::first_none))]
-fn free_number(used: &[bool]) -> Option<FileNo>
-    requires { length used.now ≡ FILES }
-    ensures value { find_in (λ k. not (slice_index_or used.now k false)) (upto FILES) ≡ option_map (λ x. x.0) result }
-    ensures within { IfSome result (λ x. x.0 < FILES) }
-{
-    for number in 0..FILES as u16 {
-        if !used[number as usize] {
-            return Some(FileNo(number));
-        }
-    }
-    None
 }

@@ -12,7 +12,7 @@ use Rattle.ho_base.specs.declared.limits.TheConstants.{SESSION_FILES}
 use Rattle.ho_base.specs.declared.numbers.Token.{Token}
 use Rattle.ho_base.specs.declared.numbers.FileNo.{FileNo}
 use Rattle.ho_events.specs.Session.{SessionState, Free, Out, In, Listed, is_out, files_of, admits, with_file, add_step, session_step}
-use Rattle.ho_events.specs.History.{session_after}
+use Rattle.ho_events.specs.History.{session_from}
 use Rattle.ho_events.specs.declared.entry.Entry.{Entry}
 use Rattle.ho_events.specs.declared.event.Event.TheVariants.{SessionAdd}
 use Rattle.ho_events.specs.declared.reply.Reply.{Reply}
@@ -21,6 +21,7 @@ use Rattle.session_core.proofs.Sessions.{turn_keeps, at_shown, taken_shown, in_o
 use Rattle.session_core.proofs.Tokens.{put_at}
 use Rattle.ho_events.specs.PlainTurns.{ReplyIsPlain}
 use Rattle.session_core.specs.Sessions.{refusal_by, refusal_of, is_loss, add_answer}
+use Rattle.session_core.specs.declared.opening.Incoming.{Incoming}
 use Rattle.session_core.specs.SessionShown.{listed, TokensRise, has_token, smaller, shown, KeepsSession}
 
 step_of_add : (s : SessionState) → (name : List ℕ) → (token : Token) → (file : FileNo) → (handle : ℕ) → (reply : Reply) → session_step s (SessionAdd name token file handle) reply ≡ add_step s name token.0 (record { file = file.0; handle = handle; taken = false }) reply
@@ -104,8 +105,8 @@ not_taken true true true h = cc
 not_taken true false true h = cc
 not_taken false b true h = cc
 
-taken_at : (own : List ℕ) → (files : List (Token × FileNo × ℕ)) → (name : List ℕ) → (token : ℕ) → IsTrue (admits (shown (Some own) files) name token) → TokensRise files → has_token token files ≡ false
-taken_at own files name token a rise = sym (taken_shown (Some own) files token rise tt) ∙ not_taken (is_out (shown (Some own) files) name) (nat_lt (finmap.len (files_of (shown (Some own) files))) SESSION_FILES) (finmap.contains_key (files_of (shown (Some own) files)) token) a
+taken_at : (own : List ℕ) → (files : List (Token × FileNo × ℕ)) → (name : List ℕ) → (token : ℕ) → IsTrue (admits (shown None (Some own) files) name token) → TokensRise files → has_token token files ≡ false
+taken_at own files name token a rise = sym (taken_shown None (Some own) files token rise tt) ∙ not_taken (is_out (shown None (Some own) files) name) (nat_lt (finmap.len (files_of (shown None (Some own) files))) SESSION_FILES) (finmap.contains_key (files_of (shown None (Some own) files)) token) a
 
 true_of : (b : Bool) → T b → b ≡ true
 true_of true h = refl
@@ -116,7 +117,7 @@ still_rising files f rise new =
     subst (λ es. IsTrue (finmap.is_sorted nat_cmp es)) (put_at f files new)
     (true_of _ (is_sorted-put nat_cmp nat_cmp_total f.0.0 (listed f).1 (map listed files) (in_order files rise)))
 
-with_shown : (own : List ℕ) → (files : List (Token × FileNo × ℕ)) → (f : Token × FileNo × ℕ) → TokensRise files → has_token f.0.0 files ≡ false → with_file (shown (Some own) files) f.0.0 (listed f).1 ≡ shown (Some own) (insert files (smaller f.0.0 files) f)
+with_shown : (own : List ℕ) → (files : List (Token × FileNo × ℕ)) → (f : Token × FileNo × ℕ) → TokensRise files → has_token f.0.0 files ≡ false → with_file (shown None (Some own) files) f.0.0 (listed f).1 ≡ shown None (Some own) (insert files (smaller f.0.0 files) f)
 unfolding shown
 with_shown own files f rise new =
     ap (Out own) (finmap.same_entries_map _ _
@@ -125,16 +126,22 @@ with_shown own files f rise new =
     ∙ put_at f files new
     ∙ sym (finmap.entries-from_sorted nat_cmp (map listed (insert files (smaller f.0.0 files) f)) (in_order (insert files (smaller f.0.0 files) f) (still_rising files f rise new)))))
 
-nothing_admitted : (files : List (Token × FileNo × ℕ)) → (name : List ℕ) → (token : ℕ) → IsTrue (admits (shown None files) name token) → ⊥
+nothing_admitted : (files : List (Token × FileNo × ℕ)) → (name : List ℕ) → (token : ℕ) → IsTrue (admits (shown None None files) name token) → ⊥
 unfolding shown
 nothing_admitted files name token h = cc
 
-pub list_keeps : (h : List Entry) → (e : Entry) → (n : Option (List ℕ)) → (files : List (Token × FileNo × ℕ)) → (name : List ℕ) → (token : Token) → (file : FileNo) → (handle : ℕ) → KeepsSession h n files → MatchOption (session_after h) ⊥ (λ s. IsTrue (admits s name token.0)) → e.event ≡ SessionAdd name token file handle → e.reply ≡ Ok → KeepsSession (h ++ e ∷ []) n (insert files (smaller token.0 files) (token, file, handle))
-list_keeps h e None files name token file handle k is event reply =
-    absurd (nothing_admitted files name token.0 (at_shown h None files (λ s. IsTrue (admits s name token.0)) k is))
-list_keeps h e (Some own) files name token file handle k is event reply =
-    let a : IsTrue (admits (shown (Some own) files) name token.0) = at_shown h (Some own) files (λ s. IsTrue (admits s name token.0)) k is in
+incoming_admits_none : (i : Incoming) → (n : Option (List ℕ)) → (files : List (Token × FileNo × ℕ)) → (name : List ℕ) → (token : ℕ) → IsTrue (admits (shown (Some i) n files) name token) → ⊥
+unfolding shown
+incoming_admits_none i n files name token h = cc
+
+pub list_keeps : (start : SessionState) → (h : List Entry) → (e : Entry) → (i : Option Incoming) → (n : Option (List ℕ)) → (files : List (Token × FileNo × ℕ)) → (name : List ℕ) → (token : Token) → (file : FileNo) → (handle : ℕ) → KeepsSession start h i n files → MatchOption (session_from start h) ⊥ (λ s. IsTrue (admits s name token.0)) → e.event ≡ SessionAdd name token file handle → e.reply ≡ Ok → KeepsSession start (h ++ e ∷ []) i n (insert files (smaller token.0 files) (token, file, handle))
+list_keeps start h e (Some i) n files name token file handle k is event reply =
+    absurd (incoming_admits_none i n files name token.0 (at_shown start h (Some i) n files (λ s. IsTrue (admits s name token.0)) k is))
+list_keeps start h e None None files name token file handle k is event reply =
+    absurd (nothing_admitted files name token.0 (at_shown start h None None files (λ s. IsTrue (admits s name token.0)) k is))
+list_keeps start h e None (Some own) files name token file handle k is event reply =
+    let a : IsTrue (admits (shown None (Some own) files) name token.0) = at_shown start h None (Some own) files (λ s. IsTrue (admits s name token.0)) k is in
     let new : has_token token.0 files ≡ false = taken_at own files name token.0 a k.rising in
-    turn_keeps h e (Some own) (Some own) files _ k
+    turn_keeps start h e None None (Some own) (Some own) files _ k
     (rw (event, reply) (step_of_add _ name token file handle Ok ∙ only_true _ _ a ∙ ap Some (with_shown own files (token, file, handle) k.rising new)))
     (still_rising files (token, file, handle) k.rising new) tt

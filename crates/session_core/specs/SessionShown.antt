@@ -1,5 +1,5 @@
 -- How the parts of a session slot show its state.
-use Rattle.std.specs.Prelude.{◌≡◌, ℕ, Bool, false, ◌==◌, nat_lt, suc, if◌then◌else◌, List, [], ◌∷◌, map, IsTrue}
+use Rattle.std.specs.Prelude.{◌≡◌, ℕ, Bool, true, false, ◌==◌, nat_lt, suc, if◌then◌else◌, List, [], ◌∷◌, map, IsTrue}
 use Rattle.std.specs.Prelude.{Option, None, Some}
 use Rattle.std.specs.List.{list_any}
 use Rattle.std.specs.Ordering.{nat_cmp}
@@ -7,10 +7,11 @@ use Rattle.std.specs.FinMap as finmap
 use Rattle.ho_base.specs.declared.numbers.Token.{Token}
 use Rattle.ho_base.specs.declared.numbers.FileNo.{FileNo}
 use Rattle.ho_events.specs.Lists.{same_bytes}
-use Rattle.ho_events.specs.Session.{SessionState, Free, Out, Listed}
+use Rattle.ho_events.specs.Session.{SessionState, Free, Out, In, Listed}
 use Rattle.ho_events.specs.Sequences.{Reference}
-use Rattle.ho_events.specs.History.{session_after}
+use Rattle.ho_events.specs.History.{session_from}
 use Rattle.ho_events.specs.declared.entry.Entry.{Entry}
+use Rattle.session_core.specs.declared.opening.Incoming.{Incoming}
 
 -- a file by its token, as the state of an outgoing session lists it: it was not taken
 abbrev pub listed : Token × FileNo × ℕ → ℕ × Listed
@@ -38,18 +39,33 @@ abbrev pub is_named : Option (List ℕ) → List ℕ → Bool
 is_named None name = false
 is_named (Some own) name = same_bytes own name
 
--- the state of a slot that has this name, or none, and these files
-unfoldable pub shown : Option (List ℕ) → List (Token × FileNo × ℕ) → SessionState
-shown None files = Free
-shown (Some name) files = Out name (finmap.from_sorted (map listed files))
+-- the files of an incoming session with what tells of each whether it was taken; where nothing tells, it wasn't
+unfoldable pub listed_by : List (Token × FileNo × ℕ) → List Bool → List (ℕ × Listed)
+listed_by [] taken = []
+listed_by (f ∷ files) [] = listed f ∷ listed_by files []
+listed_by (f ∷ files) (b ∷ taken) = (f.0.0, record (listed f).1 { taken = b }) ∷ listed_by files taken
 
--- without a name nothing is listed
-abbrev pub ListsNothingIfFree : Option (List ℕ) → List (Token × FileNo × ℕ) → Type 0
-ListsNothingIfFree None files = files ≡ []
-ListsNothingIfFree (Some name) files = Unit {0}
+-- the state of a slot with these files: an incoming session, where there is one; else the outgoing session of this
+-- name; else the slot is free
+unfoldable pub shown : Option Incoming → Option (List ℕ) → List (Token × FileNo × ℕ) → SessionState
+shown (Some i) name files = In i.name i.opened (finmap.from_sorted (listed_by files i.taken.items))
+shown None None files = Free
+shown None (Some name) files = Out name (finmap.from_sorted (map listed files))
 
--- the history is a run to the state that the parts show
-pub record KeepsSession (history : List Entry) (name : Option (List ℕ)) (files : List (Token × FileNo × ℕ)) : Type 0 where
-  pub replayed : session_after history ≡ Some (shown name files)
+-- a slot has neither an incoming session nor an outgoing one
+abbrev pub has_none : Option Incoming → Option (List ℕ) → Bool
+has_none (Some i) name = false
+has_none None (Some name) = false
+has_none None None = true
+
+-- a slot with an incoming session has no outgoing one, and a free slot lists nothing
+abbrev pub HasOneSide : Option Incoming → Option (List ℕ) → List (Token × FileNo × ℕ) → Type 0
+HasOneSide (Some i) name files = name ≡ None
+HasOneSide None None files = files ≡ []
+HasOneSide None (Some name) files = Unit {0}
+
+-- the history is a run from the start to the state that the parts show
+pub record KeepsSession (start : SessionState) (history : List Entry) (incoming : Option Incoming) (name : Option (List ℕ)) (files : List (Token × FileNo × ℕ)) : Type 0 where
+  pub replayed : session_from start history ≡ Some (shown incoming name files)
   pub rising : TokensRise files
-  pub free : ListsNothingIfFree name files
+  pub side : HasOneSide incoming name files

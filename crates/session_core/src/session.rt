@@ -1,18 +1,19 @@
-//! A session slot: free, or the outgoing session of a name with its files.
+//! A session slot: free, or the outgoing or incoming session of a name with its files.
 
 ghost use Rattle.std.specs.Prelude.{◌≡◌, ◌+◌, ◌<◌, ◌≤◌, ◌^◌, ◌↔◌, ◌++◌, ◌∷◌, [], None, OnOk, IfSome, IsTrue, is_some, length, map, nat_le};
 ghost use Rattle.ho_base.specs.declared.limits.TheConstants.{SESSION_FILES};
-ghost use Rattle.ho_events.specs.History.{last_stamp, session_after};
+ghost use Rattle.ho_events.specs.History.{last_stamp, session_from};
 ghost use Rattle.ho_events.specs.Sequences.{object_at, session_content, OfFiles};
 ghost use Rattle.ho_events.specs.Slips.{entry_at};
 ghost use Rattle.ho_events.specs.declared.event.Event.TheVariants.{SessionBegin, SessionAdd, SessionClose};
 ghost use Rattle.ho_events.specs.declared.reply.Reply.TheVariants.{Ok, NoSession};
-ghost use Rattle.ho_events.specs.Session.{is_out, admits, session_step};
+ghost use Rattle.ho_events.specs.Session.{Free, is_out, admits, session_step};
 ghost use Rattle.ho_events.specs.PlainTurns.{EventIsPlain, ReplyIsPlain};
 ghost use Rattle.session_core.specs.Sessions.{IsFree, name_of, refusal_by, refusal_of, is_loss, add_answer, close_answer};
-ghost use Rattle.session_core.specs.SessionShown.{reference, TokensRise, has_token, is_named, smaller};
+ghost use Rattle.session_core.specs.SessionShown.{reference, TokensRise, has_none, has_token, is_named, smaller};
 ghost use Rattle.session_core.specs.SessionValues.{SessionIs};
 
+use crate::opening::{Incoming, Opening};
 use ho_base::limits::SESSION_FILES;
 use ho_base::name::Name;
 use ho_base::numbers::{FileNo, NoMemory, ObjectNo, Token};
@@ -24,13 +25,17 @@ use ho_events::reply::Reply;
 use ho_events::slip::{Slip, Turned};
 use std::alloc::Global;
 use std::marker::Model;
+use std::snapshot::Snapshot;
 
-/// A session slot with the history of all turns on it. Contracts see its number, that history, and how much
-/// more fits; its state is where the history leads.
+/// A session slot with the history of all turns on it. Contracts see its number, its state before the first of these
+/// turns, that history, and how much more fits; its state is where the history leads from there.
 #[derive(Drop)]
 pub struct SessionObject {
     number: ObjectNo,
-    /// The name of the outgoing session; none where the slot is free.
+    start: Snapshot<Opening>,
+    /// The incoming session, where the slot has one.
+    incoming: Option<Incoming>,
+    /// The name of the outgoing session, where the slot has one.
     name: Option<Name>,
     /// The files with their handles, in strictly rising tokens.
     files: Vec<(Token, FileNo, u64)>,
@@ -38,6 +43,8 @@ pub struct SessionObject {
 }
 
 impl Model for SessionObject {
+    ghost use Rattle.std.specs.Coded.{codes};
+    ghost use Rattle.std.specs.FinMap as finmap;
     ghost use Rattle.std.specs.Prelude.{◌-◌};
     ghost use Rattle.std.specs.Vec.{vec_len, vec_capacity};
     ghost use Rattle.session_core.specs.SessionValues.{SessionValue};
@@ -45,22 +52,38 @@ impl Model for SessionObject {
 
     ghost Value = { SessionValue };
 
-    ghost view = { λ s. record { number = s.number.0; history = s.history.items; room = vec_capacity s.history - vec_len s.history; spare = vec_capacity s.files - vec_len s.files } };
+    ghost coded = { Prim.hlevel (codes, finmap.code) };
 
-    ghost invariant = { λ s. KeepsSession s.history.items s.name s.files.items };
+    ghost view = { λ s. record { number = s.number.0; start = s.start.value; history = s.history.items; room = vec_capacity s.history - vec_len s.history; spare = vec_capacity s.files - vec_len s.files } };
+
+    ghost invariant = { λ s. KeepsSession s.start.value s.history.items s.incoming s.name s.files.items };
 }
 
 impl SessionObject {
-    /// A free slot with no history. It takes no memory.
-    #[tactic(auto, using(crate::proofs::Sessions::free_keeps))]
+    /// A slot with no history that begins free. It takes no memory.
+    #[tactic(auto, using(crate::proofs::Sessions::free_keeps, crate::proofs::Sessions::free_none))]
     pub fn free(object: ObjectNo, alloc: Global) -> SessionObject
         ensures number { result.number ≡ object.0 }
+        ensures start { result.start ≡ Free }
         ensures history { result.history ≡ [] }
     {
-        SessionObject {
-            number: object,
+        let opening = Opening {
+            incoming: None,
             name: None,
             files: Vec::new(alloc),
+        };
+        let start = Snapshot::of(&opening);
+        let Opening {
+            incoming,
+            name,
+            files,
+        } = opening;
+        SessionObject {
+            number: object,
+            start,
+            incoming,
+            name,
+            files,
             history: Vec::new(alloc),
         }
     }
@@ -71,6 +94,7 @@ impl SessionObject {
         ensures tokens { OnOk result (tokens ≤ self.new.spare) }
         ensures history { self.new.history ≡ self.old.history }
         ensures number { self.new.number ≡ self.old.number }
+        ensures start { self.new.start ≡ self.old.start }
     {
         if self.history.reserve(entries as usize).is_err()
             || self.files.reserve(tokens as usize).is_err()
@@ -84,7 +108,7 @@ impl SessionObject {
     #[tactic(auto, using(crate::proofs::Sessions::keeps_run))]
     pub fn entries(&self) -> &[Entry]
         ensures value { result.now ≡ self.now.history }
-        ensures run { IsTrue (is_some (session_after self.now.history)) }
+        ensures run { IsTrue (is_some (session_from self.now.start self.now.history)) }
     {
         self.history.as_slice()
     }
@@ -94,10 +118,10 @@ impl SessionObject {
     pub fn is_free(&self) -> bool
         ensures { SessionIs self.now (λ s. IsTrue result ↔ IsFree s) }
     {
-        self.name.is_none()
+        is_empty(&self.incoming, self.name)
     }
 
-    /// The name of the outgoing session; none exactly where the slot is free.
+    /// The name of the outgoing session; none exactly where the slot isn't one.
     #[tactic(auto, using(crate::proofs::Sessions::name_shown))]
     pub fn name(&self) -> Option<Name>
         ensures { SessionIs self.now (λ s. result ≡ name_of s) }
@@ -116,7 +140,7 @@ impl SessionObject {
     /// The session's files with their handles, in strictly rising tokens.
     #[tactic(auto, using(crate::proofs::Sessions::content_kept))]
     pub fn files(&self) -> &[(Token, FileNo, u64)]
-        ensures content { session_content (session_after self.now.history) ≡ OfFiles (map reference result.now) }
+        ensures content { session_content (session_from self.now.start self.now.history) ≡ OfFiles (map reference result.now) }
         ensures rising { TokensRise result.now }
     {
         self.files.as_slice()
@@ -142,9 +166,10 @@ impl SessionObject {
         ensures told { result.entry ≡ entry_at slip.at (last_stamp self.old.history) (object_at self.old.number) (SessionBegin name) Ok }
         ensures kept { self.new.history ≡ self.old.history ++ result.entry ∷ [] }
         ensures number { self.new.number ≡ self.old.number }
+        ensures start { self.new.start ≡ self.old.start }
         ensures room { self.new.room + 1 ≡ self.old.room }
         ensures spare { self.new.spare ≡ self.old.spare }
-        ensures run { IsTrue (is_some (session_after self.new.history)) }
+        ensures run { IsTrue (is_some (session_from self.new.start self.new.history)) }
     {
         self.name = Some(name);
         let turned = append_plain_turn(
@@ -180,9 +205,10 @@ impl SessionObject {
         ensures told { result.entry ≡ entry_at slip.at (last_stamp self.old.history) (object_at self.old.number) (SessionAdd name token file handle) result.value }
         ensures kept { self.new.history ≡ self.old.history ++ result.entry ∷ [] }
         ensures number { self.new.number ≡ self.old.number }
+        ensures start { self.new.start ≡ self.old.start }
         ensures room { self.new.room + 1 ≡ self.old.room }
         ensures spare { self.old.spare ≤ self.new.spare + 1 }
-        ensures run { IsTrue (is_some (session_after self.new.history)) }
+        ensures run { IsTrue (is_some (session_from self.new.start self.new.history)) }
     {
         let refusal = self.admits(name, token);
         match refusal.or(lost) {
@@ -202,9 +228,10 @@ impl SessionObject {
         ensures told { result.entry ≡ entry_at slip.at (last_stamp self.old.history) (object_at self.old.number) (SessionClose name) result.value }
         ensures kept { self.new.history ≡ self.old.history ++ result.entry ∷ [] }
         ensures number { self.new.number ≡ self.old.number }
+        ensures start { self.new.start ≡ self.old.start }
         ensures room { self.new.room + 1 ≡ self.old.room }
         ensures spare { self.old.spare ≤ self.new.spare }
-        ensures run { IsTrue (is_some (session_after self.new.history)) }
+        ensures run { IsTrue (is_some (session_from self.new.start self.new.history)) }
     {
         if self.is_out(name) {
             self.end(slip, name)
@@ -226,9 +253,10 @@ impl SessionObject {
         ensures told { result.entry ≡ entry_at slip.at (last_stamp self.old.history) (object_at self.old.number) event reply }
         ensures kept { self.new.history ≡ self.old.history ++ result.entry ∷ [] }
         ensures number { self.new.number ≡ self.old.number }
+        ensures start { self.new.start ≡ self.old.start }
         ensures room { self.new.room + 1 ≡ self.old.room }
         ensures spare { self.new.spare ≡ self.old.spare }
-        ensures run { IsTrue (is_some (session_after self.new.history)) }
+        ensures run { IsTrue (is_some (session_from self.new.start self.new.history)) }
     {
         append_plain_turn(&mut self.history, self.number, slip, event, reply)
     }
@@ -251,9 +279,10 @@ impl SessionObject {
         ensures told { result.entry ≡ entry_at slip.at (last_stamp self.old.history) (object_at self.old.number) (SessionAdd name token file handle) Ok }
         ensures kept { self.new.history ≡ self.old.history ++ result.entry ∷ [] }
         ensures number { self.new.number ≡ self.old.number }
+        ensures start { self.new.start ≡ self.old.start }
         ensures room { self.new.room + 1 ≡ self.old.room }
         ensures spare { self.old.spare ≤ self.new.spare + 1 }
-        ensures run { IsTrue (is_some (session_after self.new.history)) }
+        ensures run { IsTrue (is_some (session_from self.new.start self.new.history)) }
     {
         let at = place_of(self.files.as_slice(), token);
         self.files.insert(at, (token, file, handle)).unwrap();
@@ -277,9 +306,10 @@ impl SessionObject {
         ensures told { result.entry ≡ entry_at slip.at (last_stamp self.old.history) (object_at self.old.number) (SessionClose name) Ok }
         ensures kept { self.new.history ≡ self.old.history ++ result.entry ∷ [] }
         ensures number { self.new.number ≡ self.old.number }
+        ensures start { self.new.start ≡ self.old.start }
         ensures room { self.new.room + 1 ≡ self.old.room }
         ensures spare { self.old.spare ≤ self.new.spare }
-        ensures run { IsTrue (is_some (session_after self.new.history)) }
+        ensures run { IsTrue (is_some (session_from self.new.start self.new.history)) }
     {
         self.name = None;
         self.files.clear();
@@ -302,6 +332,16 @@ impl Recorded for SessionObject {
 
     fn last_stamp(&self) -> u64 {
         last_stamp_of(self.history.as_slice())
+    }
+}
+
+/// Whether a slot has neither an incoming session nor an outgoing one.
+fn is_empty(incoming: &Option<Incoming>, name: Option<Name>) -> bool
+    ensures { result ≡ has_none incoming.now name }
+{
+    match incoming {
+        Some(_) => false,
+        None => name.is_none(),
     }
 }
 

@@ -2,8 +2,8 @@
 
 ghost use Rattle.std.specs.Prelude.{◌≡◌, ◌<◌, ◌∷◌, [], IfOk, IfErr, OnOk, None, Some, IsTrue, is_some, true, false};
 ghost use Rattle.ho_base.specs.Objects.{session_no};
-ghost use Rattle.ho_events.specs.History.{session_after};
-ghost use Rattle.ho_events.specs.Session.{is_out};
+ghost use Rattle.ho_events.specs.History.{session_after, session_from};
+ghost use Rattle.ho_events.specs.Session.{Free, is_out};
 ghost use Rattle.ho_events.specs.Sequences.{OfFiles, session, registry, done, session_content};
 ghost use Rattle.phys_frames.specs.Memory.{AreOf};
 ghost use Rattle.machine_core.specs.Machine.{Agent, no_hands};
@@ -43,7 +43,8 @@ fn close_other<R: Reach>(
     requires slot { slot.0 < OUT_SLOTS }
     requires number { held.number ≡ session_no slot.0 }
     requires hands { (R.shown reach.old).hands ≡ record no_hands { session = Some (record { number = session_no slot.0; history = held.history }) } }
-    requires run { IsTrue (is_some (session_after held.history)) }
+    requires run { IsTrue (is_some (session_from held.start held.history)) }
+    requires start { held.start ≡ Free }
     requires other { SessionIs held (λ s. false ≡ is_out s name) }
     ensures ready { IsReady (R.shown reach.new) at.new }
     ensures command { at.new.command ≡ at.old.command }
@@ -60,6 +61,7 @@ fn close_other<R: Reach>(
 
 /// A session as it is, whose files are told.
 fn files_of(held: &SessionObject) -> Snapshot<SessionObject>
+    requires start { held.now.start ≡ Free }
     ensures value { result.value ≡ held.now }
     ensures files { session_content (session_after held.now.history) ≡ OfFiles (files_in (session_content (session_after held.now.history))) }
 {
@@ -81,7 +83,8 @@ fn close_out<R: Reach>(
     requires slot { slot.0 < OUT_SLOTS }
     requires number { held.number ≡ session_no slot.0 }
     requires hands { (R.shown reach.old).hands ≡ record no_hands { session = Some (record { number = session_no slot.0; history = held.history }) } }
-    requires run { IsTrue (is_some (session_after held.history)) }
+    requires run { IsTrue (is_some (session_from held.start held.history)) }
+    requires start { held.start ≡ Free }
     requires out { SessionIs held (λ s. true ≡ is_out s name) }
     ensures ready { IsReady (R.shown reach.new) at.new }
     ensures command { at.new.command ≡ at.old.command }
@@ -118,7 +121,8 @@ fn end_out<R: Reach>(
     requires slot { slot.0 < OUT_SLOTS }
     requires number { held.number ≡ session_no slot.0 }
     requires hands { (R.shown reach.old).hands ≡ record no_hands { session = Some (record { number = session_no slot.0; history = held.history }) } }
-    requires run { IsTrue (is_some (session_after held.history)) }
+    requires run { IsTrue (is_some (session_from held.start held.history)) }
+    requires start { held.start ≡ Free }
     requires out { SessionIs held (λ s. true ≡ is_out s name) }
     ensures ready { IsReady (R.shown reach.new) at.new }
     ensures command { at.new.command ≡ at.old.command }

@@ -3,8 +3,8 @@
 ghost use Rattle.std.specs.Prelude.{vec_len, ◌^◌, length, ◌≡◌, ◌<◌, ◌∷◌, ◌++◌, [], IfOk, IfErr, OnOk, OnErr, None, Some, is_some, IsTrue, true, false, map};
 ghost use Rattle.std.specs.List.{flat_map};
 ghost use Rattle.ho_base.specs.Objects.{session_no};
-ghost use Rattle.ho_events.specs.History.{session_after};
-ghost use Rattle.ho_events.specs.Session.{is_out};
+ghost use Rattle.ho_events.specs.History.{session_after, session_from};
+ghost use Rattle.ho_events.specs.Session.{Free, is_out};
 ghost use Rattle.ho_events.specs.Sequences.{close_part, closed_reference, session, session_content, OfFiles, registry, pool, unless_empty};
 ghost use Rattle.phys_frames.specs.Memory.{AreOf};
 ghost use Rattle.machine_core.specs.Machine.{Agent, no_hands};
@@ -259,7 +259,8 @@ pub fn end_session<R: Reach>(
     requires slot { slot.0 < OUT_SLOTS }
     requires number { held.number ≡ session_no slot.0 }
     requires held { (R.shown reach.old).hands.session ≡ Some (record { number = session_no slot.0; history = held.history }) }
-    requires run { IsTrue (is_some (session_after held.history)) }
+    requires run { IsTrue (is_some (session_from held.start held.history)) }
+    requires start { held.start ≡ Free }
     ensures ready { IsReady (R.shown reach.new) at.new }
     ensures command { at.new.command ≡ at.old.command }
     ensures same { SameAgent (R.shown reach.old) (R.shown reach.new) }

@@ -3,8 +3,8 @@
 ghost use Rattle.std.specs.Prelude.{◌≡◌, ◌<◌, ◌^◌, ◌∷◌, [], IfOk, OnOk, OnErr, None, Some, is_some, IsTrue, IfSome, length};
 ghost use Rattle.ho_base.specs.Objects.{session_no};
 ghost use Rattle.ho_base.specs.declared.numbers.Kind.TheVariants.{Memfd};
-ghost use Rattle.ho_events.specs.History.{last_stamp, session_after};
-ghost use Rattle.ho_events.specs.Session.{admits};
+ghost use Rattle.ho_events.specs.History.{last_stamp, session_from};
+ghost use Rattle.ho_events.specs.Session.{Free, admits};
 ghost use Rattle.ho_events.specs.Sequences.{OfFile, Plain, done, file, session, pool, unless_empty, is_pin_refusal};
 ghost use Rattle.machine_core.specs.Machine.{Agent, no_hands};
 ghost use Rattle.luo_calls.specs.Outcomes.{preserve_outcome, preserve_rest, IsRest};
@@ -37,7 +37,8 @@ pub fn let_go<R: Reach>(reach: &mut R, slot: SlotNo, session: SessionObject)
     requires slot { slot.0 < OUT_SLOTS }
     requires number { session.number ≡ session_no slot.0 }
     requires held { (R.shown reach.old).hands.session ≡ Some (record { number = session_no slot.0; history = session.history }) }
-    requires run { IsTrue (is_some (session_after session.history)) }
+    requires run { IsTrue (is_some (session_from session.start session.history)) }
+    requires start { session.start ≡ Free }
     ensures same { SameAgent (R.shown reach.old) (R.shown reach.new) }
     ensures last { (R.shown reach.new).last ≡ (R.shown reach.old).last }
     ensures log { (R.shown reach.new).log ≡ (R.shown reach.old).log }
@@ -63,7 +64,8 @@ fn add<R: Reach>(
     requires slot { slot.0 < OUT_SLOTS }
     requires number { held.number ≡ session_no slot.0 }
     requires held { (R.shown reach.old).hands.session ≡ Some (record { number = session_no slot.0; history = held.history }) }
-    requires run { IsTrue (is_some (session_after held.history)) }
+    requires run { IsTrue (is_some (session_from held.start held.history)) }
+    requires start { held.start ≡ Free }
     requires lost { IfSome lost (λ reply. IsTrue (is_loss reply)) }
     ensures ready { IsReady (R.shown reach.new) at.new }
     ensures command { at.new.command ≡ at.old.command }
@@ -137,7 +139,8 @@ fn add_lost<R: Reach>(
     requires slot { slot.0 < OUT_SLOTS }
     requires number { held.number ≡ session_no slot.0 }
     requires hands { (R.shown reach.old).hands ≡ record no_hands { session = Some (record { number = session_no slot.0; history = held.history }) } }
-    requires run { IsTrue (is_some (session_after held.history)) }
+    requires run { IsTrue (is_some (session_from held.start held.history)) }
+    requires start { held.start ≡ Free }
     requires admitted { SessionIs held (λ s. None ≡ refusal_of s name token.0) }
     requires lost { IsTrue (is_loss lost) }
     requires refusal { IsTrue (is_pin_refusal lost) }
@@ -182,7 +185,8 @@ fn pin_and_add<R: Reach>(
     requires file { number.0 < FILES }
     requires number { held.number ≡ session_no slot.0 }
     requires hands { (R.shown reach.old).hands ≡ record no_hands { session = Some (record { number = session_no slot.0; history = held.history }) } }
-    requires run { IsTrue (is_some (session_after held.history)) }
+    requires run { IsTrue (is_some (session_from held.start held.history)) }
+    requires start { held.start ≡ Free }
     requires admitted { SessionIs held (λ s. None ≡ refusal_of s name token.0) }
     ensures ready { IsReady (R.shown reach.new) at.new }
     ensures command { at.new.command ≡ at.old.command }

@@ -108,6 +108,7 @@ fn leave<R: Reach>(reach: &mut R, begun: Begun, number: FileNo)
     requires file { number.0 < FILES }
     requires number { begun.object.number ≡ file_no number.0 }
     requires home { begun.object.home ≡ (R.shown reach.old).home }
+    requires start { begun.object.start ≡ None }
     requires hands { (R.shown reach.old).hands ≡ record no_hands { file = Some (record { number = file_no number.0; history = begun.object.history }) } }
     ensures same { SameAgent (R.shown reach.old) (R.shown reach.new) }
     ensures last { (R.shown reach.new).last ≡ (R.shown reach.old).last }

@@ -7,4 +7,4 @@ pub invariant_of-result : goal.invariant_of-result
 invariant_of-result c =
     let count : length c.build.new.objects.items ≡ object_count = omega (arith, c.build.ensures.count) in
     subst (λ h. KeepsObjects c.args.shape.value h c.put_back.new.objects.items none_out []) (sym c.home-home.ensures)
-    (cold_keeps _ c.args.pool _ _ c.requires.shape c.requires.pool c.build.ensures.built count c.put_back.ensures.place)
+    (cold_keeps _ c.args.pool _ _ c.requires.shape c.requires.start c.requires.pool c.build.ensures.built count c.put_back.ensures.place)

@@ -7,13 +7,13 @@ use Rattle.memfd_file.proofs.FileSteps.{turn_noted, turn_ran, some_run}
 use Rattle.memfd_file.proofs.file.FileObject.unpin.Goals as goal
 
 pub invariant_of-self : goal.invariant_of-self
-invariant_of-self c = turn_noted c.self.inside.history.items c.append_turn.new.history.items c.append_turn.result.entry c.self.inside.home c.self.inside.content c.unpin-reply.new.content
+invariant_of-self c = turn_noted (shown c.self.inside.start.value) c.self.inside.history.items c.append_turn.new.history.items c.append_turn.result.entry c.self.inside.home c.self.inside.content c.unpin-reply.new.content
     FileUnpin c.unpin-reply.result _ _ _ c.self.invariant c.append_turn.ensures.kept c.append_turn.ensures.told c.unpin-reply.ensures.step c.unpin-reply.ensures.sound
     (c.unpin-reply.ensures.home c.self.inside.home c.self.invariant.at_home)
 
 pub returns-clause-run : goal.returns-clause-run
-returns-clause-run c = some_run c.append_turn.new.history.items (shown c.unpin-reply.new.content)
-    (turn_ran c.self.inside.history.items c.append_turn.new.history.items c.append_turn.result.entry c.self.inside.home c.self.inside.content
+returns-clause-run c = some_run (shown c.self.inside.start.value) c.append_turn.new.history.items (shown c.unpin-reply.new.content)
+    (turn_ran (shown c.self.inside.start.value) c.self.inside.history.items c.append_turn.new.history.items c.append_turn.result.entry c.self.inside.home c.self.inside.content
     FileUnpin c.unpin-reply.result _ _ _ (shown c.unpin-reply.new.content) c.self.invariant c.append_turn.ensures.kept c.append_turn.ensures.told c.unpin-reply.ensures.step)
 
 pub returns-clause-given : goal.returns-clause-given

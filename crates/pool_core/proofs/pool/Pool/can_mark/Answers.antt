@@ -1,5 +1,5 @@
 use Rattle.std.proofs.Common.{◌≡◌, subst}
-use Rattle.ho_events.specs.History.{pool_after}
+use Rattle.ho_events.specs.History.{pool_from}
 use Rattle.ho_events.specs.Lists.{firsts}
 use Rattle.ho_events.specs.Pool.{can_give}
 use Rattle.pool_core.specs.PoolValues.{PoolValue, PoolIs}
@@ -10,20 +10,20 @@ pub returns-then-are_all_different-clause-exact : goal.returns-then-are_all_diff
 returns-then-are_all_different-clause-exact c =
     let P : PoolValue → Type 0 = λ p. PoolIs p (λ s. c.are_loose.result ≡ can_give s c.args.order.0 (firsts c.args.runs.now)) in
     subst P c.self.view_is
-    (give_told c.self.inside.table c.self.inside.history.items c.args.order c.args.runs.now c.self.invariant c.requires _
+    (give_told c.self.inside.table c.self.inside.start.value c.self.inside.history.items c.args.order c.args.runs.now c.self.invariant c.requires _
     (second_test _ _ _ _ c.are_all_different.ensures c.if-are_all_different.true c.are_loose.ensures))
 
 pub returns-else-are_all_different-clause-exact : goal.returns-else-are_all_different-clause-exact
 returns-else-are_all_different-clause-exact c =
     let P : PoolValue → Type 0 = λ p. PoolIs p (λ s. c.are_all_different.result ≡ can_give s c.args.order.0 (firsts c.args.runs.now)) in
     subst P c.self.view_is
-    (give_told c.self.inside.table c.self.inside.history.items c.args.order c.args.runs.now c.self.invariant c.requires _
+    (give_told c.self.inside.table c.self.inside.start.value c.self.inside.history.items c.args.order c.args.runs.now c.self.invariant c.requires _
     (first_test _ _ _ c.are_all_different.ensures c.if-are_all_different.false))
 
 pub returns-then-are_all_different-clause-legal : goal.returns-then-are_all_different-clause-legal
 returns-then-are_all_different-clause-legal c =
-    λ holds. told_true (pool_after c.args.self.now.shape c.args.self.now.history) (λ s. can_give s c.args.order.0 (firsts c.args.runs.now)) c.are_loose.result holds (returns-then-are_all_different-clause-exact c)
+    λ holds. told_true (pool_from c.args.self.now.start c.args.self.now.history) (λ s. can_give s c.args.order.0 (firsts c.args.runs.now)) c.are_loose.result holds (returns-then-are_all_different-clause-exact c)
 
 pub returns-else-are_all_different-clause-legal : goal.returns-else-are_all_different-clause-legal
 returns-else-are_all_different-clause-legal c =
-    λ holds. told_true (pool_after c.args.self.now.shape c.args.self.now.history) (λ s. can_give s c.args.order.0 (firsts c.args.runs.now)) c.are_all_different.result holds (returns-else-are_all_different-clause-exact c)
+    λ holds. told_true (pool_from c.args.self.now.start c.args.self.now.history) (λ s. can_give s c.args.order.0 (firsts c.args.runs.now)) c.are_all_different.result holds (returns-else-are_all_different-clause-exact c)

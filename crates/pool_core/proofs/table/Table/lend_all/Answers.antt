@@ -1,7 +1,7 @@
-use Rattle.std.proofs.Common.{◌≡◌, ◌∷◌, ap, sym, ◌∙◌, arith}
+use Rattle.std.proofs.Common.{◌≡◌, ◌∷◌, true, ap, sym, ◌∙◌, arith}
 use Rattle.std.proofs.lemmas.Grind.{common_steps}
-use Rattle.pool_core.specs.PoolFlags.{are_different, with_owned}
-use Rattle.pool_core.proofs.PoolLists.{lent_step, out_step, still_free, others_differ, flags_end}
+use Rattle.pool_core.specs.PoolFlags.{are_different}
+use Rattle.pool_core.proofs.PoolLists.{lent_step, out_step, still_free, others_differ, owned_end}
 use Rattle.pool_core.proofs.table.Table.lend_all.Goals as goal
 
 pub loop-run-preserved : goal.loop-run-preserved
@@ -17,4 +17,4 @@ loop-run-preserved c =
 
 pub returns-clause-value : goal.returns-clause-value
 returns-clause-value c =
-    ap (with_owned c.loop-run.self) (sym (flags_end _ c.loop-run.left.now c.loop-run.self.owned c.in_default.ensures.cases)) ∙ c.loop-run.invariant.0
+    sym (owned_end c.loop-run.self true c.loop-run.left.now c.in_default.ensures.cases) ∙ c.loop-run.invariant.0

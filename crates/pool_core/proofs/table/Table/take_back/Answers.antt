@@ -7,8 +7,8 @@ use Rattle.pool_core.proofs.table.Table.take_back.Goals as goal
 
 pub invariant_of-self : goal.invariant_of-self
 invariant_of-self c =
-    subst (λ p. KeepsFlags c.self.inside.shape c.give.new.self (slice_set c.self.inside.owned.items p.0 false) c.self.inside.marked.items) (sym c.first-first.ensures.value)
-    (given_keeps c.self.inside.shape c.self.inside.frames c.give.new.self c.self.inside.owned.items c.self.inside.marked.items c.args.folio c.self.invariant
+    subst (λ p. KeepsFlags c.self.inside.shape c.give.new.self (slice_set c.self.inside.owned.items p.0 false) (slice_set c.self.inside.single.items p.0 false) c.self.inside.marked.items) (sym c.first-first.ensures.value)
+    (given_keeps c.self.inside.shape c.self.inside.frames c.give.new.self c.self.inside.owned.items c.self.inside.single.items c.self.inside.marked.items c.args.folio c.self.invariant
     (ap (λ m. length m.pages) c.give.ensures.home ∙ given_count c.self.inside.frames c.args.folio c.give.ensures.were_out.0)
     (ap (λ m. m.home.frames) c.give.ensures.home)
     c.give.ensures.were_out

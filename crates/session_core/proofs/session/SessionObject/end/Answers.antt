@@ -8,13 +8,13 @@ use Rattle.session_core.proofs.session.SessionObject.end.Goals as goal
 pub invariant_of-self : goal.invariant_of-self
 invariant_of-self c =
     rw (c.clear.ensures.items, c.append_plain_turn.ensures.kept)
-    (end_keeps _ _ _ _ c.args.name c.self.invariant
+    (end_keeps _ _ _ _ _ _ c.args.name c.self.invariant
     (subst (λ v. SessionIs v (λ s. IsTrue (is_out s c.args.name))) (sym c.self.view_is) c.requires.out)
     (ap (λ (e : Entry). e.event) c.append_plain_turn.ensures.told) (ap (λ (e : Entry). e.reply) c.append_plain_turn.ensures.told))
 
 pub returns-clause-run : goal.returns-clause-run
 returns-clause-run c =
     rw c.append_plain_turn.ensures.kept
-    (end_run _ _ _ _ c.args.name c.self.invariant
+    (end_run _ _ _ _ _ _ c.args.name c.self.invariant
     (subst (λ v. SessionIs v (λ s. IsTrue (is_out s c.args.name))) (sym c.self.view_is) c.requires.out)
     (ap (λ (e : Entry). e.event) c.append_plain_turn.ensures.told) (ap (λ (e : Entry). e.reply) c.append_plain_turn.ensures.told))

@@ -2,7 +2,7 @@ use Rattle.std.proofs.Common.{◌≡◌, ◌<◌, not, true, false, slice_index_
 use Rattle.std.proofs.lemmas.Grind.{common_steps}
 use Rattle.ho_base.specs.declared.limits.TheConstants.{FILES}
 use Rattle.registry_core.proofs.FirstOf.{first_at}
-use Rattle.registry_core.proofs.registry.free_number.Goals as goal
+use Rattle.registry_core.proofs.parts.free_number.Goals as goal
 
 pub returns-then-not-used-number-clause-value : goal.returns-then-not-used-number-clause-value
 returns-then-not-used-number-clause-value c =

@@ -3,7 +3,7 @@ use Rattle.std.proofs.lemmas.Grind.{common_steps}
 use Rattle.ho_base.specs.declared.limits.TheConstants.{OUT_SLOTS}
 use Rattle.registry_core.proofs.FirstOf.{first_at}
 use Rattle.registry_core.specs.RegistryShown.{slot_taken}
-use Rattle.registry_core.proofs.registry.free_slot.Goals as goal
+use Rattle.registry_core.proofs.parts.free_slot.Goals as goal
 
 pub returns-then-not-has_slot-clause-value : goal.returns-then-not-has_slot-clause-value
 returns-then-not-has_slot-clause-value c =

@@ -1,5 +1,5 @@
 use Rattle.std.proofs.Common.{◌≡◌, ◌<◌, not, false, slice_index_or, ℕ}
-use Rattle.registry_core.proofs.registry.free_number.Given as goal
+use Rattle.registry_core.proofs.parts.free_number.Given as goal
 
 -- each number so far is in use
 abbrev pub invariant-loop-number : goal.invariant-loop-number

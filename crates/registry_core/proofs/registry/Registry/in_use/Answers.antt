@@ -1,0 +1,10 @@
+use Rattle.std.proofs.Common.{IsTrue, ◌↔◌, subst}
+use Rattle.registry_core.proofs.RegistryRuns.{use_told}
+use Rattle.registry_core.specs.Registries.{IsInUse}
+use Rattle.registry_core.specs.RegistryValues.{RegistryIs}
+use Rattle.registry_core.proofs.registry.Registry.in_use.Goals as goal
+
+pub returns : goal.returns
+returns c =
+    subst (λ v. RegistryIs v (λ s. IsTrue c.index.result.now ↔ IsInUse c.args.file.0 s)) c.self.view_is
+    (use_told _ _ _ c.args.file.0 c.index.result.now c.self.invariant c.requires c.index.ensures)
