@@ -20,7 +20,7 @@ use Rattle.ho_world.proofs.Fronts.{and_both, and_left, and_right, all_append, al
 use Rattle.ho_world.proofs.Grow.{begins_same, done_stays, done_stays_kernel}
 
 -- an order of two lists, one after the other
-pairs_parts : (r : Entry → Entry → Bool) (xs ys : List Entry) → IsTrue (all_pairs r xs) → IsTrue (all_pairs r ys) → IsTrue (list_all (λ d. list_all (r d) ys) xs) → IsTrue (all_pairs r (xs ++ ys))
+pub pairs_parts : (r : Entry → Entry → Bool) (xs ys : List Entry) → IsTrue (all_pairs r xs) → IsTrue (all_pairs r ys) → IsTrue (list_all (λ d. list_all (r d) ys) xs) → IsTrue (all_pairs r (xs ++ ys))
 unfolding all_pairs
 pairs_parts r [] ys h k across = k
 pairs_parts r (x ∷ xs) ys h k across =
