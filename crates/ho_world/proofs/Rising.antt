@@ -24,7 +24,7 @@ not_some t e = cc
 abbrev own : ℕ → AgentWork → ℕ
 own a work = (if work.agent.0 == a then length work.commands else 0)
 
-counted : (a : ℕ) (xs ys : List AgentWork) → commands_of a (xs ++ ys) ≡ commands_of a xs + commands_of a ys
+pub counted : (a : ℕ) (xs ys : List AgentWork) → commands_of a (xs ++ ys) ≡ commands_of a xs + commands_of a ys
 counted a [] ys = omega arith
 counted a (w ∷ xs) ys = omega (arith, counted a xs ys)
 
@@ -35,11 +35,11 @@ counted_push a xs w = counted a xs (w ∷ []) ∙ ap (λ n. commands_of a xs + n
     no_more n = omega arith
 
 -- the sections of two parts are numbered, each after those before it
-front : (earlier xs ys : List AgentWork) → IsTrue (are_numbered earlier (xs ++ ys)) → IsTrue (are_numbered earlier xs)
+pub front : (earlier xs ys : List AgentWork) → IsTrue (are_numbered earlier (xs ++ ys)) → IsTrue (are_numbered earlier xs)
 front earlier [] ys h = refl
 front earlier (x ∷ xs) ys h = and_both (x.first == commands_of x.agent.0 earlier + 1) _ (and_left (x.first == commands_of x.agent.0 earlier + 1) _ h) (front (earlier ++ x ∷ []) xs ys (and_right (x.first == commands_of x.agent.0 earlier + 1) _ h))
 
-rest : (earlier xs ys : List AgentWork) → IsTrue (are_numbered earlier (xs ++ ys)) → IsTrue (are_numbered (earlier ++ xs) ys)
+pub rest : (earlier xs ys : List AgentWork) → IsTrue (are_numbered earlier (xs ++ ys)) → IsTrue (are_numbered (earlier ++ xs) ys)
 rest earlier [] ys h = subst (λ es. IsTrue (are_numbered es ys)) (nil earlier) h
   where
     nil : (es : List AgentWork) → es ≡ es ++ []
@@ -92,7 +92,7 @@ outside w n e true t first is below = past (nat_lt (n - w.first) (length w.comma
         omega (arith, long, above, first, below)
 
 -- where a section's first stands
-first_at : (earlier : List AgentWork) (w : AgentWork) (works : List AgentWork) (a : ℕ) → IsTrue (w.agent.0 == a) → IsTrue (are_numbered earlier (w ∷ works)) → w.first ≡ commands_of a earlier + 1
+pub first_at : (earlier : List AgentWork) (w : AgentWork) (works : List AgentWork) (a : ℕ) → IsTrue (w.agent.0 == a) → IsTrue (are_numbered earlier (w ∷ works)) → w.first ≡ commands_of a earlier + 1
 first_at earlier w works a same h =
     subst (λ x. w.first ≡ commands_of x earlier + 1) (eq_true w.agent.0 a same) (eq_true w.first (commands_of w.agent.0 earlier + 1) (and_left (w.first == commands_of w.agent.0 earlier + 1) _ h))
 
@@ -100,7 +100,7 @@ later : (earlier : List AgentWork) (w : AgentWork) (works : List AgentWork) → 
 later earlier w works h = and_right (w.first == commands_of w.agent.0 earlier + 1) _ h
 
 -- a number that some sections have lies among theirs
-found : (earlier works : List AgentWork) (a n : ℕ) (c : Command) → IsTrue (are_numbered earlier works) → command_among works a n ≡ Some c → (commands_of a earlier < n) × (n ≤ commands_of a earlier + commands_of a works)
+pub found : (earlier works : List AgentWork) (a n : ℕ) (c : Command) → IsTrue (are_numbered earlier works) → command_among works a n ≡ Some c → (commands_of a earlier < n) × (n ≤ commands_of a earlier + commands_of a works)
 found earlier [] a n c h is = absurd (not_some c is)
 found earlier (w ∷ works) a n c h is = at (λ is. more (found (earlier ++ w ∷ []) works a n c (later earlier w works h) is)) (w.agent.0 == a) refl is
   where

@@ -2,6 +2,7 @@
 //! with laws of them. A law is the contract of a function without a body.
 #![tactic(auto)]
 
+ghost use Rattle.ho_world.specs.Alone.{AloneIsNext, IdleIsNext, NumberedRounds};
 ghost use Rattle.ho_world.specs.Readings.{ReadingsAreLegal};
 ghost use Rattle.ho_world.specs.Refusals.{QuietIsQuiet, RefusedChangesNothing};
 ghost use Rattle.ho_world.specs.Through.{NumberedRises, ThroughIsLegal};
@@ -31,4 +32,22 @@ pub fn refused_changes_nothing()
 /// them, an agent's later command stands in no earlier block.
 pub fn numbered_scripts_have_rising_numbers()
     ensures { NumberedRises }
+{}
+
+/// In such a script the tasks of a round of one agent are exactly the commands of its section, in order, and no other
+/// block has a task of these numbers.
+pub fn numbered_scripts_have_rounds_of_one()
+    ensures { NumberedRounds }
+{}
+
+/// What one agent that works alone in a round did takes a history through one block more, where it did whole
+/// sequences of its commands, one after another, and each object's entries are a run of its steps. Its labels and the
+/// last stamp are then what the entries say, and the labels of all others stay.
+pub fn alone_is_next()
+    ensures { AloneIsNext }
+{}
+
+/// A round without an agent takes a history through one block more, without an entry.
+pub fn idle_is_next()
+    ensures { IdleIsNext }
 {}
