@@ -1,5 +1,5 @@
 -- The lines of what one agent did alone: each is the act or the end that it was done as, and what was read is true.
-use Rattle.std.proofs.Common.{◌≡◌, ℕ, ◌+◌, ◌<◌, ◌≤◌, Bool, true, false, not, ◌&&◌, ◌==◌, List, [], ◌∷◌, ◌++◌, length, map, filter, refl, sym, ap, subst, ◌∙◌, arith, IsTrue, append_assoc, unwrap_or, zero, suc}
+use Rattle.std.proofs.Common.{◌≡◌, ℕ, ◌<◌, Bool, true, not, ◌==◌, List, [], ◌∷◌, ◌++◌, length, map, filter, refl, sym, ap, subst, ◌∙◌, arith, IsTrue, append_assoc, unwrap_or, suc}
 use Rattle.std.specs.Prelude.{Option, None, Some, option_map}
 use Rattle.std.specs.List.{list_all}
 use Rattle.std.specs.FinMap as finmap
@@ -16,8 +16,8 @@ use Rattle.ho_events.specs.History.{on}
 use Rattle.ho_world.specs.World.{State, Nothing, World, run, file_in, session_in}
 use Rattle.ho_world.specs.Entries.{in_kernel, beginning, Line, lines_from}
 use Rattle.ho_world.specs.Acts.{Claim, IsFile, BeganAs, HasFiles, HasToken, Reference, sort_of, references, reference_at, IsSort, Holds, AllHold, Act}
-use Rattle.ho_world.specs.Legal.{seen_at, begun_at, IsAct, IsEnd, Fits}
-use Rattle.ho_world.specs.Logs.{Known, known_state, began, HoldsOf, IsClaimed, AreClaimed, AreDone, deed_of, end_with, grown, known_all, paired_on}
+use Rattle.ho_world.specs.Legal.{seen_at, begun_at, Fits}
+use Rattle.ho_world.specs.Logs.{Known, HoldsOf, IsClaimed, AreClaimed, AreDone, deed_of, end_with, grown, known_all, paired_on}
 use Rattle.ho_world.proofs.Fronts.{and_both, and_left, and_right, all_append, all_follow, filter_front, filter_parts, filter_in, eq_test}
 use Rattle.ho_world.proofs.Grow.{begins_same}
 use Rattle.ho_world.proofs.Rises.{on_parts}
@@ -125,8 +125,7 @@ module _ (start : World) (k : ℕ) (es : List Entry) where
     chunk_fits at kernel last (act ∷ acts) reply seen (e ∷ new) last' own h =
         let here : e.kernel ≡ k = ap (λ (x : Entry). x.kernel) h.0 ∙ kernel in
         let more = chunk_fits at kernel e.stamp acts reply (seen ++ e ∷ []) new last' (all_append (λ x. x.kernel == k) seen (e ∷ []) own (and_both (e.kernel == k) true (eq_test e.kernel k here) refl)) h.4 in
-        let place : (es ++ seen) ++ e ∷ [] ≡ es ++ (seen ++ e ∷ []) = append_assoc es seen (e ∷ []) in
-        (
+        let place : (es ++ seen) ++ e ∷ [] ≡ es ++ (seen ++ e ∷ []) = append_assoc es seen (e ∷ []) in (
           (
             record {
               object = ap (λ (x : Entry). x.object) h.0;

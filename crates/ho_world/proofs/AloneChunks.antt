@@ -1,5 +1,5 @@
 -- The entries of each command of an agent that works alone, among all that it did.
-use Rattle.std.proofs.Common.{◌≡◌, ℕ, ◌+◌, ◌<◌, ◌≤◌, Bool, true, false, not, ◌&&◌, ◌||◌, ◌==◌, nat_lt, nat_le, List, [], ◌∷◌, ◌++◌, length, filter, refl, sym, ap, subst, ◌∙◌, arith, IsTrue, append_assoc, zero, suc}
+use Rattle.std.proofs.Common.{◌≡◌, ℕ, ◌+◌, ◌<◌, Bool, true, false, not, ◌&&◌, ◌==◌, nat_lt, nat_le, List, [], ◌++◌, filter, refl, sym, ap, subst, ◌∙◌, arith, IsTrue, append_assoc, zero, suc}
 use Rattle.std.specs.Prelude.{Option, Some, slice_get}
 use Rattle.std.specs.List.{list_all}
 use Rattle.std.proofs.lemmas.Bool.Decides.{nat_tests}
@@ -14,10 +14,10 @@ use Rattle.ho_world.specs.Sequences.{Labels, Outcome, command_acts}
 use Rattle.ho_world.specs.Logs.{AreDone, deeds_of, paired_on}
 use Rattle.ho_world.proofs.AloneActs.{all_pass}
 use Rattle.ho_world.proofs.AloneStamps.{is_of_at, is_mine, IsNextAt, chunk_of, went_at, went_mine}
-use Rattle.ho_world.proofs.Fronts.{and_both, and_left, and_right, all_append, all_follow, filter_front, filter_parts, all_line, lines_parts, eq_test}
+use Rattle.ho_world.proofs.Fronts.{and_right, all_append, all_follow, filter_front, filter_parts, all_line, lines_parts}
 use Rattle.ho_world.proofs.Went.{Went}
 
--- of this agent and of a command after number n
+-- of a command after number n
 abbrev pub is_later : ℕ → Entry → Bool
 is_later n e = nat_lt n e.command
 
@@ -47,13 +47,16 @@ module _ (begun : ℕ → Option State) (f : ℕ → List Entry) (commands : Lis
     where
       is_less : (x y : ℕ) → nat_lt x y ≡ true → x < y
       is_less x y h = grind (arith, nat_tests)
+
       is_same : (x y : ℕ) → nat_lt x y ≡ false → x < suc y → y ≡ x
       is_same x y h g = grind (arith, nat_tests)
-      after : (q : At) (e : Entry) (n : ℕ) → q.command ≡ first.command + m → i < m → IsTrue (is_of_at q e) → IsTrue (nat_lt (first.command + i) e.command)
-      after q e n is l own = up e.command q.command (first.command) is (and_right (e.kernel == q.kernel && e.agent.0 == q.agent.0) _ own)
+
+      above : (q : At) (e : Entry) → q.command ≡ first.command + m → i < m → IsTrue (is_of_at q e) → IsTrue (nat_lt (first.command + i) e.command)
+      above q e is l own = up e.command q.command first.command is (and_right (e.kernel == q.kernel && e.agent.0 == q.agent.0) _ own)
         where
           up : (c n g : ℕ) → n ≡ g + m → IsTrue (c == n) → IsTrue (nat_lt (g + i) c)
           up c n g is own = grind (arith, nat_tests)
+
       by_order : (i < m → Chunk begun f commands labels_first first h.front i) → (t : Bool) → nat_lt i m ≡ t → Chunk begun f commands labels_first first es i
       by_order more true t =
           let c : Chunk begun f commands labels_first first h.front i = more (is_less i m t) in
@@ -74,7 +77,7 @@ module _ (begun : ℕ → Option State) (f : ℕ → List Entry) (commands : Lis
             back = c.back ++ h.chunk;
             parts = h.parts ∙ ap (λ xs. xs ++ h.chunk) c.parts ∙ append_assoc c.front (c.chunk ++ c.back) h.chunk ∙ ap (λ xs. c.front ++ xs) (append_assoc c.chunk c.back h.chunk);
             later = all_append (is_later (first.command + i)) c.back h.chunk c.later
-                (all_follow (is_of_at h.at_before) (is_later (first.command + i)) h.chunk (λ e own. after h.at_before e 0 before.command (is_less i m t) own)
+                (all_follow (is_of_at h.at_before) (is_later (first.command + i)) h.chunk (λ e own. above h.at_before e before.command (is_less i m t) own)
                 (chunk_of begun f h.at_before h.at_before.last (deeds_of h.acts) h.front h.chunk at.last h.done));
           }
       by_order more false t =
@@ -124,23 +127,27 @@ module _ (begun : ℕ → Option State) (f : ℕ → List Entry) (commands : Lis
       where
         own : Line → Bool
         own l = is_of a n l.entry
+
         no_line : (seen xs : List Entry) → IsTrue (list_all (λ e. not (is_of a n e)) xs) → filter own (lines_from seen xs) ≡ []
         no_line seen xs h = filter_front own [] (lines_from seen xs) (all_line (λ e. not (is_of a n e)) seen xs ∙ h)
+
         not_yet : (e : Entry) → IsTrue (is_mine first i e) → IsTrue (not (is_of a n e))
-        not_yet e h = test (e.agent.0 == a) e.command n (first.command) number (and_right (e.kernel == first.kernel && e.agent.0 == first.agent.0) _ h)
+        not_yet e h = test (e.agent.0 == a) e.command n first.command number (and_right (e.kernel == first.kernel && e.agent.0 == first.agent.0) _ h)
           where
             test : (t : Bool) (m n g : ℕ) → n ≡ g + i → IsTrue (nat_le g m && nat_lt m (g + i)) → IsTrue (not (t && m == n))
             test false m n g is h = refl
             test true m n g is h = grind (arith, nat_tests)
+
         no_more : (e : Entry) → IsTrue (is_later (first.command + i) e) → IsTrue (not (is_of a n e))
-        no_more e h = test (e.agent.0 == a) e.command n (first.command) number h
+        no_more e h = test (e.agent.0 == a) e.command n first.command number h
           where
             test : (t : Bool) (m n g : ℕ) → n ≡ g + i → IsTrue (nat_lt (g + i) m) → IsTrue (not (t && m == n))
             test false m n g is h = refl
             test true m n g is h = grind (arith, nat_tests)
+
         its_own : (e : Entry) → IsTrue (is_of_at c.at e) → IsTrue (is_of a n e)
         its_own e h =
-            test e.kernel c.at.kernel e.agent.0 c.at.agent.0 first.agent.0 a e.command c.at.command (first.command + i) n (chunk_at.agent) agent chunk_at.command number h
+            test e.kernel c.at.kernel e.agent.0 c.at.agent.0 first.agent.0 a e.command c.at.command (first.command + i) n chunk_at.agent agent chunk_at.command number h
           where
             test : (k j x y z a m p q n : ℕ) → y ≡ z → a ≡ z → p ≡ q → n ≡ q → IsTrue (k == j && x == y && m == p) → IsTrue (x == a && m == n)
             test k j x y z a m p q n r s t u h = grind (arith, nat_tests)

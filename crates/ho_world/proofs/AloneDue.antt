@@ -1,5 +1,5 @@
 -- Which tasks the entries of one agent that works alone belong to, and where they stand among the others.
-use Rattle.std.proofs.Common.{◌≡◌, ℕ, ◌+◌, ◌-◌, ◌<◌, ◌≤◌, Bool, true, false, not, ◌&&◌, ◌||◌, ◌==◌, nat_lt, nat_le, max, List, [], ◌∷◌, ◌++◌, length, filter, refl, sym, ap, subst, ◌∙◌, arith, IsTrue, cond, zero, suc}
+use Rattle.std.proofs.Common.{◌≡◌, ℕ, ◌+◌, ◌-◌, ◌<◌, ◌≤◌, Bool, true, false, not, ◌&&◌, ◌||◌, ◌==◌, nat_lt, nat_le, List, [], ◌∷◌, length, refl, sym, ap, ◌∙◌, arith, IsTrue, cond, zero, suc}
 use Rattle.std.specs.Prelude.{Option, None, Some, slice_get}
 use Rattle.std.specs.List.{list_all}
 use Rattle.std.proofs.lemmas.Bool.Decides.{nat_tests}
@@ -43,6 +43,7 @@ all_under k t (e ∷ es) h = by_kernel (λ low. all_under k t es low) (e.kernel 
   where
     test : (x y : ℕ) → x ≤ y → IsTrue (nat_le x y)
     test x y h = grind (arith, nat_tests)
+
     by_kernel : (greatest_stamp (in_kernel k es) ≤ t → IsTrue (list_all (is_under k t) es)) → (c : Bool) → (e.kernel == k) ≡ c → greatest_stamp (cond c (e ∷ in_kernel k es) (in_kernel k es)) ≤ t → IsTrue (list_all (is_under k t) (e ∷ es))
     by_kernel more true is h =
         let low : e.stamp ≤ t = omega (arith, h) in
@@ -101,16 +102,20 @@ module _ (blocks : List Block) (b : ℕ) (work : AgentWork) (r : IsRoundOf block
           where
             same : (j l : ℕ) → IsTrue (j == k) → IsTrue (l == k) → IsTrue (j == l)
             same j l h g = grind (arith, nat_tests)
+
             later : (w x y z : Bool) → IsTrue x → IsTrue y → IsTrue (w || (x && (y || z)))
             later true x y z h g = refl
             later false true true z h g = refl
             later false true false z h g = absurd cc
             later false false y z h g = absurd cc
+
         same_block : (c : ℕ) → IsTrue (nat_le c c)
         same_block c = grind (arith, nat_tests)
+
         either : (p q : Bool) → IsTrue q → IsTrue (not p || q)
         either true q h = h
         either false q h = refl
+
         ordered : (d e : Entry) → IsTrue (mine d) → IsTrue (mine e) → IsTrue (goes_before d e) → IsTrue (stands_before blocks d e)
         ordered d e own_d own_e goes =
             and_both (comes_before d e && no_earlier (block_of blocks d) (block_of blocks e)) _
@@ -126,13 +131,17 @@ module _ (blocks : List Block) (b : ℕ) (work : AgentWork) (r : IsRoundOf block
         where
           own : (d : Command) × (due_of blocks work.agent.0 n ≡ Some (record { block = b; task = Ask d }))
           own = mine_due n low high
+
           is_less : (x y : ℕ) → nat_lt x y ≡ true → x < y
           is_less x y h = grind (arith, nat_tests)
+
           not_less : (x y : ℕ) → nat_lt x y ≡ false → y ≤ x
           not_less x y h = grind (arith, nat_tests)
+
           block_number : Option Due → ℕ
           block_number None = 0
           block_number (Some d) = d.block
+
           by_same : (t : Bool) → nat_lt n m ≡ t → n ≤ m → ⊥
           by_same true t le =
               let up : b ≤ c.block = numbers work.agent.0 n m (record { block = b; task = Ask own.0 }) c (is_less n m t) own.1 due in
@@ -142,6 +151,7 @@ module _ (blocks : List Block) (b : ℕ) (work : AgentWork) (r : IsRoundOf block
               let same : m ≡ n = omega (arith, high_m, le) in
               let blocks_same : c.block ≡ b = ap block_number (sym due ∙ ap (λ x. due_of blocks work.agent.0 x) same ∙ own.1) in
               omega (arith, blocks_same, below)
+
           by_order : (t : Bool) → nat_lt m n ≡ t → m < n
           by_order true t = is_less m n t
           by_order false t = absurd (by_same (nat_lt n m) refl (not_less m n t))
@@ -152,6 +162,7 @@ module _ (blocks : List Block) (b : ℕ) (work : AgentWork) (r : IsRoundOf block
         where
           is_less : (x y : ℕ) → IsTrue (nat_lt x y) → x < y
           is_less x y h = grind (arith, nat_tests)
+
           at : (o : Option Due) → due_of blocks d.agent.0 d.command ≡ o → IsTrue (is_below b (block_in o)) → d.command < n
           at None is h = absurd cc
           at (Some c) is h = earlier_number d.command n c (ap (λ a. due_of blocks a d.command) (sym own) ∙ is) (is_less c.block b h) low high
@@ -174,12 +185,14 @@ module _ (blocks : List Block) (b : ℕ) (work : AgentWork) (r : IsRoundOf block
           comes : (j l s t g : ℕ) (c : Bool) → IsTrue (nat_le j k) → IsTrue (l == k) → IsTrue (not (j == k) || nat_le s g) → IsTrue (nat_lt g t) → IsTrue (nat_lt j l || (j == l && (nat_lt s t || c)))
           comes j l s t g true h i u v = grind (arith, nat_tests)
           comes j l s t g false h i u v = grind (arith, nat_tests)
+
           no_later : (o : Option ℕ) → IsTrue (is_below b o) → IsTrue (no_earlier o (Some b))
           no_later None h = refl
           no_later (Some c) h = test c b h
             where
               test : (x y : ℕ) → IsTrue (nat_lt x y) → IsTrue (nat_le x y)
               test x y h = grind (arith, nat_tests)
+
           in_turn : (d e : Entry) → IsTrue (is_below b (block_of blocks d)) → IsTrue (mine e) → (t : Bool) → (d.agent.0 == e.agent.0) ≡ t → IsTrue (not t || nat_le d.command e.command)
           in_turn d e below own false is = refl
           in_turn d e below own true is =
@@ -188,6 +201,7 @@ module _ (blocks : List Block) (b : ℕ) (work : AgentWork) (r : IsRoundOf block
             where
               test : (x y : ℕ) → x < y → IsTrue (nat_le x y)
               test x y h = grind (arith, nat_tests)
+
           stands : (d e : Entry) → IsTrue (is_below b (block_of blocks d)) → IsTrue (nat_le d.kernel k) → IsTrue (is_under k (greatest_stamp (in_kernel k es)) d) → IsTrue (mine e) → IsTrue (nat_lt (greatest_stamp (in_kernel k es)) e.stamp) → IsTrue (stands_before blocks d e)
           stands d e below le under own above =
               and_both (comes_before d e && no_earlier (block_of blocks d) (block_of blocks e)) _

@@ -1,5 +1,5 @@
 -- The labels that an agent's entries say, and those that its commands make.
-use Rattle.std.proofs.Common.{◌≡◌, ℕ, ◌+◌, ◌<◌, ◌≤◌, Bool, true, false, ◌&&◌, ◌==◌, nat_lt, nat_le, List, [], ◌∷◌, ◌++◌, map, refl, sym, ap, subst, ◌∙◌, arith, IsTrue, zero, suc}
+use Rattle.std.proofs.Common.{◌≡◌, ℕ, ◌+◌, Bool, true, false, List, [], ◌∷◌, ◌++◌, map, refl, sym, ap, subst, ◌∙◌, zero, suc}
 use Rattle.std.specs.Prelude.{Option, None, Some, if◌then◌else◌, slice_get}
 use Rattle.ho_base.specs.declared.numbers.FileNo.{FileNo}
 use Rattle.ho_events.specs.File.{is_device}
@@ -13,14 +13,14 @@ use Rattle.ho_base.specs.declared.numbers.Token.{Token}
 use Rattle.ho_events.specs.declared.script.Block.{Block}
 use Rattle.ho_events.specs.declared.slip.At.{At}
 use Rattle.ho_world.specs.World.{State}
-use Rattle.ho_world.specs.Entries.{is_own, is_ok}
+use Rattle.ho_world.specs.Entries.{is_ok}
 use Rattle.ho_world.specs.Acts.{Act, Sequence, registry, session}
-use Rattle.ho_world.specs.Sequences.{Labels, Outcome, command_acts, NoFile, MemfdCame, DeviceCame, WriteCame, ReadCame, TruncateCame, CloseFdCame, CreateCame, PreserveCame, CloseCame, OpenCame, RetrieveCame, FinishCame, KexecCame}
+use Rattle.ho_world.specs.Sequences.{Labels, Outcome, command_acts, MemfdCame, DeviceCame, RetrieveCame}
 use Rattle.ho_world.specs.Sequences.Files.{NoNumber, Made, NoDeviceNumber, NoDeviceFrame, DeviceMade}
 use Rattle.ho_world.specs.Sequences.Sessions.{NotOpened, NotGiven, NotRetrieved, MemfdTaken, DeviceTaken, RetrieveOutcome, retrieve_acts, is_take_refusal}
 use Rattle.ho_world.specs.Tasks.{Ask, Due, due_of}
 use Rattle.ho_world.specs.Legal.{Labeling, found_in, after_task, label_entry, labeling_from}
-use Rattle.ho_world.specs.Logs.{Deed, AreDone, deed_of, deeds_of, entry_of, end_with, found_among, labels_after, paired_on}
+use Rattle.ho_world.specs.Logs.{AreDone, deed_of, end_with, found_among, labels_after, paired_on}
 use Rattle.ho_world.proofs.AloneStamps.{IsNextAt, went_at}
 use Rattle.ho_world.proofs.Went.{Went}
 

@@ -1,6 +1,6 @@
 -- What one agent did alone in a round takes the history through one block more.
-use Rattle.std.proofs.Common.{◌≡◌, ◌≢◌, ℕ, ◌+◌, ◌<◌, ◌≤◌, Bool, true, false, not, ◌&&◌, ◌||◌, ◌==◌, nat_lt, nat_le, max, List, [], ◌∷◌, ◌++◌, length, filter, refl, sym, ap, subst, ◌∙◌, arith, IsTrue, cond, unwrap_or, suc}
-use Rattle.std.specs.Prelude.{Option, None, Some}
+use Rattle.std.proofs.Common.{◌≡◌, ◌≢◌, ℕ, ◌+◌, ◌<◌, ◌≤◌, Bool, true, false, not, ◌&&◌, ◌||◌, ◌==◌, nat_lt, nat_le, List, [], ◌∷◌, ◌++◌, length, filter, refl, sym, ap, subst, ◌∙◌, arith, IsTrue, cond, unwrap_or, suc}
+use Rattle.std.specs.Prelude.{Option, Some}
 use Rattle.std.specs.List.{list_all}
 use Rattle.std.proofs.lemmas.Bool.Decides.{nat_tests}
 use Rattle.ho_events.specs.History.{on, greatest_stamp}
@@ -9,22 +9,21 @@ use Rattle.ho_events.specs.declared.script.AgentWork.{AgentWork}
 use Rattle.ho_events.specs.declared.script.Block.{Block}
 use Rattle.ho_events.specs.declared.slip.At.{At}
 use Rattle.ho_world.specs.Alone.{IsRoundOf, first_at, IsAlone, GivesRound, AloneIsNext}
-use Rattle.ho_world.specs.Entries.{in_kernel, is_of, ends_kernel, is_own, is_ok, Line, lines, lines_from, lines_of, all_pairs}
-use Rattle.ho_world.specs.Legal.{block_of, block_in, is_below, Labeling, labeling_from, nothing_bound, is_earlier_of, labels_before, labels_now, world_before, Fits, IsWhole}
-use Rattle.ho_world.specs.Logs.{paired_on}
-use Rattle.ho_world.specs.Readings.{are_stamped, stands_before, IsDone}
+use Rattle.ho_world.specs.Entries.{in_kernel, is_of, is_own, is_ok, lines, lines_from, lines_of}
+use Rattle.ho_world.specs.Legal.{block_of, is_below, Labeling, labeling_from, nothing_bound, is_earlier_of, labels_before, labels_now, world_before, Fits, IsWhole}
+use Rattle.ho_world.specs.Readings.{are_stamped, IsDone}
 use Rattle.ho_world.specs.Sequences.{Labels, sequence}
 use Rattle.ho_world.specs.Tasks.{Ask, Due, due_of}
 use Rattle.ho_world.specs.Threads.{is_in_round}
-use Rattle.ho_world.specs.Through.{HasRisingNumbers, is_at, is_here, IsDoneBy, IsThrough, IsNext}
+use Rattle.ho_world.specs.Through.{HasRisingNumbers, is_here, IsDoneBy, IsThrough}
 use Rattle.ho_world.specs.World.{State, World}
 use Rattle.ho_world.proofs.AloneActs.{all_pass, kernel_here, chunk_fits}
 use Rattle.ho_world.proofs.AloneChunks.{is_later, Chunk, went_chunk, chunk_at, chunk_own, front_mine, told}
 use Rattle.ho_world.proofs.AloneDue.{mine_agent, mine_block, mine_here, round_in_order, earlier_number, earlier_entry, round_follows}
 use Rattle.ho_world.proofs.AloneLabels.{labeling_parts, went_labels}
 use Rattle.ho_world.proofs.AloneStamped.{alone_stamped}
-use Rattle.ho_world.proofs.AloneStamps.{is_of_at, is_mine, goes_before, IsNextAt, Stamps, stamps_above, stamps_last, went_stamps, went_mine, went_goes}
-use Rattle.ho_world.proofs.Fronts.{and_both, and_left, and_right, all_append, all_rest, all_follow, all_line, filter_front, filter_parts, eq_true, eq_test}
+use Rattle.ho_world.proofs.AloneStamps.{is_of_at, is_mine, Stamps, stamps_above, stamps_last, went_stamps, went_mine, went_goes}
+use Rattle.ho_world.proofs.Fronts.{and_both, and_left, and_right, all_append, all_rest, all_follow, all_line, filter_front, filter_parts, eq_true}
 use Rattle.ho_world.proofs.Stamped.{greatest_parts}
 use Rattle.ho_world.proofs.Went.{Went, went}
 
@@ -78,8 +77,10 @@ module _ (start : World) (blocks : List Block) (es new : List Entry) (b k : ℕ)
     where
       above : 0 < work.agent.0
       above = alone.agent
+
       not_zero : (x : ℕ) → x ≡ work.agent.0 → (x == 0) ≡ false
       not_zero x is = let up : 0 < work.agent.0 = above in grind (arith, nat_tests)
+
       no_kexec : (x : ℕ) (p q : Bool) → x ≡ work.agent.0 → IsTrue (not ((x == 0 && p) && q))
       no_kexec x p q is = ap (λ c. not ((c && p) && q)) (not_zero x is)
 
@@ -124,6 +125,7 @@ module _ (start : World) (blocks : List Block) (es new : List Entry) (b k : ℕ)
     where
       no : (x : ℕ) → x ≡ work.agent.0 → (x == a) ≡ false
       no x is = grind (arith, nat_tests, other)
+
       not_its : (p : Bool) (x : ℕ) → x ≡ work.agent.0 → IsTrue (not (p && x == a))
       not_its false x is = refl
       not_its true x is = ap (λ c. not c) (no x is)
@@ -141,6 +143,7 @@ module _ (start : World) (blocks : List Block) (es new : List Entry) (b k : ℕ)
       where
         not_that : (x y : ℕ) → x < y → IsTrue (not (x == y))
         not_that x y h = grind (arith, nat_tests)
+
         other : (d : Entry) → IsTrue (is_below b (block_of blocks d)) → (q : Bool) → (d.agent.0 == work.agent.0) ≡ q → IsTrue (not (q && d.command == work.first + i))
         other d h false is = refl
         other d h true is = not_that d.command (work.first + i) (earlier_entry blocks b work r k es numbers d (work.first + i) h (eq_true d.agent.0 work.agent.0 is) number_low number_high)
@@ -150,6 +153,7 @@ module _ (start : World) (blocks : List Block) (es new : List Entry) (b k : ℕ)
       where
         is_less : (x y : ℕ) → x < y → IsTrue (nat_lt x y)
         is_less x y h = grind (arith, nat_tests)
+
         same : (d : Entry) → IsTrue (is_below b (block_of blocks d)) → (p q : Bool) → (d.agent.0 == work.agent.0) ≡ q → (p && q && nat_lt d.command (work.first + i)) ≡ (p && q)
         same d h false q is = refl
         same d h true false is = refl
@@ -172,6 +176,7 @@ module _ (start : World) (blocks : List Block) (es new : List Entry) (b k : ℕ)
         not_now : (q : Bool) (m n g : ℕ) → n ≡ g → IsTrue (m == n) → IsTrue (not (q && nat_lt m g))
         not_now false m n g is h = refl
         not_now true m n g is h = grind (arith, nat_tests)
+
         not_then : (q : Bool) (g m : ℕ) → IsTrue (nat_lt g m) → IsTrue (not (q && nat_lt m g))
         not_then false g m h = refl
         not_then true g m h = grind (arith, nat_tests)
@@ -234,10 +239,13 @@ module _ (start : World) (blocks : List Block) (es new : List Entry) (b k : ℕ)
     where
       is_less : (x y : ℕ) → x < y → IsTrue (nat_lt x y)
       is_less x y h = grind (arith, nat_tests)
+
       less_than : (x y : ℕ) → IsTrue (nat_lt x y) → x < y
       less_than x y h = grind (arith, nat_tests)
+
       at_most : (x y : ℕ) → IsTrue (nat_le x y) → x ≤ y
       at_most x y h = grind (arith, nat_tests)
+
       after : (e : Entry) → IsTrue (mine e) → (q : Bool) → (e.agent.0 == a) ≡ q → IsTrue (not q || nat_lt n e.command)
       after e h false is = refl
       after e h true is =

@@ -1,6 +1,6 @@
 -- The stamps of what one agent did alone are those that are due.
-use Rattle.std.proofs.Common.{◌≡◌, ◌≢◌, ℕ, ◌+◌, ◌<◌, ◌≤◌, Bool, true, false, not, ◌&&◌, ◌==◌, nat_lt, max, List, [], ◌∷◌, ◌++◌, refl, sym, ap, subst, ◌∙◌, arith, IsTrue, append_assoc, inl, inr, cond}
-use Rattle.std.specs.Prelude.{Option, Some}
+use Rattle.std.proofs.Common.{◌≡◌, ◌≢◌, ℕ, ◌+◌, ◌<◌, Bool, true, false, ◌==◌, max, List, [], ◌∷◌, ◌++◌, refl, sym, ap, subst, ◌∙◌, arith, IsTrue, append_assoc, inl, inr, cond}
+use Rattle.std.specs.Prelude.{Some}
 use Rattle.std.specs.List.{list_all}
 use Rattle.std.proofs.lemmas.Bool.Decides.{nat_tests, eqb_tells}
 use Rattle.std.proofs.lemmas.List.{append-nil}
@@ -16,7 +16,7 @@ use Rattle.ho_world.specs.Readings.{are_stamped}
 use Rattle.ho_world.specs.Threads.{HadBefore, IsStampedAt, IsStampedLog, rises, is_in_round}
 use Rattle.ho_world.specs.Logs.{grown, before_at}
 use Rattle.ho_world.proofs.AloneStamps.{Stamps}
-use Rattle.ho_world.proofs.Fronts.{and_left, and_right, all_rest, eq_true}
+use Rattle.ho_world.proofs.Fronts.{and_left, and_right, eq_true}
 use Rattle.ho_world.proofs.Rises.{is_greatest, rise_more, on_more, on_same, on_parts, object_rises}
 use Rattle.ho_world.proofs.Stamped.{round_is_stamped}
 
@@ -56,9 +56,9 @@ module _ (f : ℕ → List Entry) where
     before = grown f seen m.0;
     more = on m.0 es;
     split =
-      ap (λ xs. grown f xs m.0) (sym (append_assoc seen (e ∷ []) es)) ∙ ap (λ xs. f m.0 ++ xs) (on_parts m.0 (seen ++ e ∷ []) es)
-      ∙ sym (append_assoc (f m.0) (on m.0 (seen ++ e ∷ [])) (on m.0 es)) ∙ ap (λ xs. xs ++ on m.0 es) (its_own seen e m is)
-      ∙ append_assoc (grown f seen m.0) (e ∷ []) (on m.0 es);
+        ap (λ xs. grown f xs m.0) (sym (append_assoc seen (e ∷ []) es)) ∙ ap (λ xs. f m.0 ++ xs) (on_parts m.0 (seen ++ e ∷ []) es)
+        ∙ sym (append_assoc (f m.0) (on m.0 (seen ++ e ∷ [])) (on m.0 es)) ∙ ap (λ xs. xs ++ on m.0 es) (its_own seen e m is)
+        ∙ append_assoc (grown f seen m.0) (e ∷ []) (on m.0 es);
     stamp = last_stamp (grown f seen m.0);
     last = is_greatest (grown f seen m.0) rising;
   }
@@ -78,8 +78,7 @@ module _ (f : ℕ → List Entry) where
   stamped_log last seen [] last' h rising = (tt, λ n. subst (λ xs. IsTrue (all_pairs rises (grown f xs n))) (sym (append-nil seen)) (rising n))
   stamped_log last seen (e ∷ es) last' h rising =
       let rest = stamped_log e.stamp (seen ++ e ∷ []) es last' h.1 (histories_rise seen e last h.0 rising) in
-      let all : (seen ++ e ∷ []) ++ es ≡ seen ++ e ∷ es = append_assoc seen (e ∷ []) es in
-      (
+      let all : (seen ++ e ∷ []) ++ es ≡ seen ++ e ∷ es = append_assoc seen (e ∷ []) es in (
         (stamped_at seen e es last e.object refl h.0 rising, subst (λ xs. IsStampedLog (grown f xs) e.stamp es) all rest.0),
         λ n. subst (λ xs. IsTrue (all_pairs rises (grown f xs n))) all (rest.1 n),
       )
@@ -117,8 +116,10 @@ alone_stamped blocks k b a es new last due stamped earlier here own of_block h =
   where
     f : ℕ → List Entry
     f o = on o (in_kernel k es)
+
     told : IsStampedLog (grown f ([] ++ new)) (greatest_stamp (in_kernel k es)) new × ((n : ℕ) → IsTrue (all_pairs rises (grown f ([] ++ new) n)))
     told = stamped_log f (greatest_stamp (in_kernel k es)) [] new last h (λ n. subst (λ xs. IsTrue (all_pairs rises xs)) (sym (grown_none f n)) (object_rises blocks es k n stamped))
+
     one : (x : ℕ) (c : Bool) → (a == x) ≡ c → IsStampedLog (grown f new) (greatest_stamp (in_kernel k es)) (by x new)
     one x true is = subst (λ l. IsStampedLog (grown f new) (greatest_stamp (in_kernel k es)) l) (sym (by_one a x true new is own)) told.0
     one x false is = subst (λ l. IsStampedLog (grown f new) (greatest_stamp (in_kernel k es)) l) (sym (by_one a x false new is own)) tt

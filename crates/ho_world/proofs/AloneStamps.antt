@@ -1,22 +1,19 @@
 -- The stamps, kernels, agents and commands of what an agent that works alone did.
-use Rattle.std.proofs.Common.{◌≡◌, ◌≢◌, ℕ, ◌+◌, ◌<◌, ◌≤◌, Bool, true, false, ◌&&◌, ◌==◌, nat_lt, nat_le, max, List, [], ◌∷◌, ◌++◌, filter, refl, sym, ap, subst, ◌∙◌, arith, IsTrue, append_assoc, inl, inr, cond, zero, suc}
+use Rattle.std.proofs.Common.{◌≡◌, ℕ, ◌+◌, ◌≤◌, Bool, ◌&&◌, ◌==◌, nat_lt, nat_le, max, List, [], ◌∷◌, ◌++◌, refl, sym, ap, subst, ◌∙◌, arith, IsTrue, append_assoc, zero, suc}
 use Rattle.std.specs.Prelude.{Option}
 use Rattle.std.specs.List.{list_all}
-use Rattle.std.proofs.lemmas.Bool.Decides.{nat_tests, eqb_tells}
+use Rattle.std.proofs.lemmas.Bool.Decides.{nat_tests}
 use Rattle.std.proofs.lemmas.List.{append-nil}
 use Rattle.ho_events.specs.declared.command.Command.{Command}
 use Rattle.ho_events.specs.declared.entry.Entry.{Entry}
-use Rattle.ho_events.specs.declared.entry.Place.{Place}
-use Rattle.ho_events.specs.declared.entry.Place.TheVariants.{Object, Own}
 use Rattle.ho_events.specs.declared.slip.At.{At}
-use Rattle.ho_events.specs.History.{on, is_on, by, greatest_stamp, last_stamp, last_stamp_from}
+use Rattle.ho_events.specs.History.{greatest_stamp, last_stamp}
 use Rattle.ho_world.specs.World.{State}
 use Rattle.ho_world.specs.Entries.{all_pairs}
 use Rattle.ho_world.specs.Sequences.{Labels}
-use Rattle.ho_world.specs.Threads.{HadBefore, IsStampedAt, IsStampedLog, rises}
-use Rattle.ho_world.specs.Logs.{Deed, AreDone, deeds_of, grown, before_at, paired_on}
-use Rattle.ho_world.proofs.Fronts.{and_both, and_left, and_right, all_append, all_follow, eq_test, eq_true, eq_same}
-use Rattle.ho_world.proofs.Rises.{less_test, less_true, is_greatest, rise_more, on_more, on_same, on_parts}
+use Rattle.ho_world.specs.Logs.{Deed, AreDone, deeds_of, before_at, paired_on}
+use Rattle.ho_world.proofs.Fronts.{and_both, and_left, and_right, all_append, all_follow, eq_test}
+use Rattle.ho_world.proofs.Rises.{less_test}
 use Rattle.ho_world.proofs.Step.{pairs_parts}
 use Rattle.ho_world.proofs.Went.{Went}
 
@@ -111,6 +108,7 @@ chunk_goes f at last last' seen (e ∷ es) h own =
   where
     same : (x y c : ℕ) → IsTrue (x == c) → IsTrue (y == c) → IsTrue (nat_le x y)
     same x y c h k = grind (arith, nat_tests)
+
     both : (xs : List Entry) → IsTrue (list_all (λ x. nat_lt e.stamp x.stamp) xs) → IsTrue (list_all (is_of_at at) xs) → IsTrue (list_all (goes_before e) xs)
     both [] up of_it = refl
     both (x ∷ xs) up of_it =
@@ -168,6 +166,7 @@ module _ (begun : ℕ → Option State) (f : ℕ → List Entry) (commands : Lis
         where
           up : (f e m : ℕ) → IsTrue (nat_le f e && nat_lt e (f + m)) → IsTrue (nat_le f e && nat_lt e (f + suc m))
           up f e m h = grind (arith, nat_tests)
+
       last : (k l j a b c n q f m : ℕ) → l ≡ j → b ≡ c → q ≡ f + m → IsTrue (k == l && a == b && n == q) → IsTrue (k == j && a == c && (nat_le f n && nat_lt n (f + suc m)))
       last k l j a b c n q f m p r s h = grind (arith, nat_tests)
 
@@ -188,8 +187,10 @@ module _ (begun : ℕ → Option State) (f : ℕ → List Entry) (commands : Lis
     where
       less : (x t y : ℕ) → IsTrue (nat_le x t) → IsTrue (nat_lt t y) → IsTrue (nat_lt x y)
       less x t y h k = grind (arith, nat_tests)
+
       sooner : (d e q f m : ℕ) → q ≡ f + m → IsTrue (nat_le f d && nat_lt d (f + m)) → IsTrue (e == q) → IsTrue (nat_le d e)
       sooner d e q f m is h k = grind (arith, nat_tests)
+
       each : (at : At) → at.command ≡ first.command + m → (d : Entry) → IsTrue (nat_le d.stamp at.last) → IsTrue (is_mine first m d) → (ys : List Entry) → IsTrue (list_all (λ e. nat_lt at.last e.stamp) ys) → IsTrue (list_all (is_of_at at) ys) → IsTrue (list_all (goes_before d) ys)
       each at is d low own [] up of_it = refl
       each at is d low own (y ∷ ys) up of_it =
@@ -197,6 +198,7 @@ module _ (begun : ℕ → Option State) (f : ℕ → List Entry) (commands : Lis
           (and_both (nat_lt d.stamp y.stamp) _ (less d.stamp at.last y.stamp low (and_left (nat_lt at.last y.stamp) _ up))
           (sooner d.command y.command at.command first.command m is (and_right (d.kernel == first.kernel && d.agent.0 == first.agent.0) _ own) (and_right (y.kernel == at.kernel && y.agent.0 == at.agent.0) _ (and_left (is_of_at at y) _ of_it))))
           (each at is d low own ys (and_right (nat_lt at.last y.stamp) _ up) (and_right (is_of_at at y) _ of_it))
+
       across : (at : At) → at.command ≡ first.command + m → (xs ys : List Entry) → IsTrue (list_all (λ e. nat_le e.stamp at.last) xs) → IsTrue (list_all (is_mine first m) xs) → IsTrue (list_all (λ e. nat_lt at.last e.stamp) ys) → IsTrue (list_all (is_of_at at) ys) → IsTrue (list_all (λ d. list_all (goes_before d) ys) xs)
       across at is [] ys low own up of_it = refl
       across at is (x ∷ xs) ys low own up of_it =

@@ -1,7 +1,7 @@
 -- Lists whose stamps rise.
-use Rattle.std.proofs.Common.{◌≡◌, ◌≢◌, ℕ, ◌+◌, ◌<◌, ◌≤◌, Bool, true, false, ◌&&◌, ◌||◌, ◌==◌, nat_lt, max, List, [], ◌∷◌, ◌++◌, filter, refl, sym, ap, subst, ◌∙◌, arith, IsTrue, append_assoc, inl, inr, cond}
+use Rattle.std.proofs.Common.{◌≡◌, ℕ, ◌+◌, ◌<◌, Bool, true, false, ◌==◌, nat_lt, max, List, [], ◌∷◌, ◌++◌, filter, refl, sym, ap, subst, ◌∙◌, arith, IsTrue, append_assoc, cond}
 use Rattle.std.specs.List.{list_all}
-use Rattle.std.proofs.lemmas.Bool.Decides.{nat_tests, eqb_tells}
+use Rattle.std.proofs.lemmas.Bool.Decides.{nat_tests}
 use Rattle.std.proofs.lemmas.List.{append-nil}
 use Rattle.ho_events.specs.declared.entry.Entry.{Entry}
 use Rattle.ho_events.specs.declared.entry.Place.{Place}
@@ -12,7 +12,7 @@ use Rattle.ho_world.specs.Entries.{in_kernel, all_pairs}
 use Rattle.ho_world.specs.Legal.{kernel_due, is_stamped, stamp_due}
 use Rattle.ho_world.specs.Readings.{are_stamped}
 use Rattle.ho_world.specs.Threads.{rises}
-use Rattle.ho_world.proofs.Fronts.{and_both, and_left, and_right, filter_parts, filter_in, eq_same, eq_true}
+use Rattle.ho_world.proofs.Fronts.{and_both, and_left, and_right, filter_parts, filter_in, eq_true}
 
 pub less_test : (x t : ℕ) → x < t → IsTrue (nat_lt x t)
 less_test x t h = grind (arith, nat_tests)
@@ -109,6 +109,7 @@ module _ (blocks : List Block) (k n : ℕ) where
           (rise_more (here seen) e r (above seen e (and_left (is_stamped blocks seen e) _ h) (eq_true e.kernel k own) e.object refl is))
       by_place false is own =
           subst (λ xs. IsTrue (all_pairs rises xs)) (sym (ap (on n) (kernel_more seen e true own) ∙ on_same n (in_kernel k seen) e is)) r
+
       by_kernel : (b : Bool) → (e.kernel == k) ≡ b → IsTrue (all_pairs rises (here (seen ++ e ∷ [])))
       by_kernel true is = by_place (is_on n e.object) refl is
       by_kernel false is =

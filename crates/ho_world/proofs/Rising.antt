@@ -3,13 +3,12 @@ use Rattle.std.proofs.Common.{◌≡◌, ℕ, ◌+◌, ◌-◌, ◌<◌, ◌≤�
 use Rattle.std.specs.Prelude.{Option, None, Some, slice_get, if◌then◌else◌}
 use Rattle.std.proofs.lemmas.Bool.Decides.{nat_tests}
 use Rattle.std.proofs.lemmas.Option.{slice_get_within}
-use Rattle.ho_events.specs.Script.Rules.{sections_of, commands_of, are_numbered, is_numbered}
+use Rattle.ho_events.specs.Script.Rules.{sections_of, commands_of, are_numbered}
 use Rattle.ho_events.specs.declared.command.Command.{Command}
 use Rattle.ho_events.specs.declared.script.AgentWork.{AgentWork}
 use Rattle.ho_events.specs.declared.script.Block.{Block}
 use Rattle.ho_events.specs.declared.script.Block.TheVariants.{Round, Kexec}
-use Rattle.ho_events.specs.declared.script.Script.{Script}
-use Rattle.ho_world.specs.Tasks.{Ask, Reboot, Due, due_from, due_of, or_else, command_in, command_among, asked_in}
+use Rattle.ho_world.specs.Tasks.{Ask, Reboot, Due, due_from, or_else, command_in, command_among, asked_in}
 use Rattle.ho_world.specs.Through.{HasRisingNumbers, NumberedRises}
 use Rattle.ho_world.proofs.DueBlock.{at_least}
 use Rattle.ho_world.proofs.Fronts.{and_both, and_left, and_right, eq_true, eq_test}

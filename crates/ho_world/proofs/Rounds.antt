@@ -5,21 +5,20 @@ use Rattle.std.specs.List.{list_all}
 use Rattle.std.proofs.lemmas.Bool.Decides.{nat_tests}
 use Rattle.std.proofs.lemmas.List.{append-nil}
 use Rattle.std.proofs.lemmas.Option.{slice_get_within}
-use Rattle.ho_events.specs.History.{on, run_from}
+use Rattle.ho_events.specs.History.{on}
 use Rattle.ho_events.specs.Script.Rules.{sections_of, commands_of, are_numbered}
 use Rattle.ho_events.specs.declared.command.Command.{Command}
 use Rattle.ho_events.specs.declared.entry.Entry.{Entry}
 use Rattle.ho_events.specs.declared.script.AgentWork.{AgentWork}
 use Rattle.ho_events.specs.declared.script.Block.{Block}
 use Rattle.ho_events.specs.declared.script.Block.TheVariants.{Round, Kexec}
-use Rattle.ho_world.specs.Alone.{IsRoundOf, IdleIsNext, NumberedRounds}
+use Rattle.ho_world.specs.Alone.{IdleIsNext, NumberedRounds}
 use Rattle.ho_world.specs.Entries.{in_kernel, beginning, all_pairs}
 use Rattle.ho_world.specs.Readings.{are_stamped, stands_before}
 use Rattle.ho_world.specs.Tasks.{Ask, Reboot, Due, due_from, due_of, or_else, command_in, command_among, asked_in}
-use Rattle.ho_world.specs.Through.{IsDoneBy, IsThrough}
-use Rattle.ho_world.specs.World.{World, run}
+use Rattle.ho_world.specs.World.{run}
 use Rattle.ho_world.proofs.DueBlock.{at_least}
-use Rattle.ho_world.proofs.Fronts.{and_left, and_right, all_follow, eq_true, eq_same, le_true}
+use Rattle.ho_world.proofs.Fronts.{eq_true, eq_same, le_true}
 use Rattle.ho_world.proofs.Rising.{counted, rest, front, first_at, found}
 
 same_value : {T : Type 0} (x y : T) → Some x ≡ Some y → x ≡ y
@@ -71,6 +70,7 @@ one_section work a n c is = by_agent (work.agent.0 == a) refl is
     no_more : (o : Option Command) → or_else o None ≡ Some c → o ≡ Some c
     no_more None e = e
     no_more (Some x) e = e
+
     by_number : (t : Bool) → nat_le work.first n ≡ t → (if t then slice_get work.commands (n - work.first) else None) ≡ Some c → (i : ℕ) × (n ≡ work.first + i) × (i < length work.commands)
     by_number false t e = absurd (not_some c e)
     by_number true t e =
@@ -78,6 +78,7 @@ one_section work a n c is = by_agent (work.agent.0 == a) refl is
         let less : n - work.first < length work.commands = slice_get_within work.commands (n - work.first) c e in
         let same : n ≡ work.first + (n - work.first) = omega (arith, low) in
         (n - work.first, same, less)
+
     by_agent : (t : Bool) → (work.agent.0 == a) ≡ t → or_else (if t then command_in work n else None) None ≡ Some c → IsPlace work a n
     by_agent false t e = absurd (not_some c e)
     by_agent true t e = (sym (eq_true work.agent.0 a t), by_number (nat_le work.first n) refl (no_more (command_in work n) e))
@@ -106,10 +107,13 @@ due_in b k (Round works ∷ blocks) earlier zero work i c h above is command =
   where
     last : b ≡ b + 0
     last = omega arith
+
     low : (f i : ℕ) → nat_le f (f + i) ≡ true
     low f i = grind (arith, nat_tests)
+
     place : (work.first + i) - work.first ≡ i
     place = omega arith
+
     own : command_among (work ∷ []) work.agent.0 (work.first + i) ≡ Some c
     own =
         ap (λ t. or_else (if t then command_in work (work.first + i) else None) None) (eq_same work.agent.0)
@@ -122,6 +126,7 @@ due_in b k (Round works ∷ blocks) earlier (suc j) work i c h above is command 
   where
     last : (b + 1) + j ≡ b + suc j
     last = omega arith
+
     none : (o : Option Command) → command_among works work.agent.0 (work.first + i) ≡ o → o ≡ None
     none None o = refl
     none (Some x) o =
@@ -137,6 +142,7 @@ due_in b k (Kexec blob ∷ blocks) earlier (suc j) work i c h above is command =
   where
     last : (b + 1) + j ≡ b + suc j
     last = omega arith
+
     not_zero : (x : ℕ) → 0 < x → (x == 0) ≡ false
     not_zero x up = grind (arith, nat_tests)
 
@@ -150,6 +156,7 @@ numbered_rounds script b work h above is = record {
   where
     none_before : (x : ℕ) → 0 + x ≡ x
     none_before x = omega arith
+
     place : (a n : ℕ) (d : Due) → due_of script.blocks a n ≡ Some d → d.block ≡ b → IsPlace work a n
     place a n d due block =
         let c = in_round 0 1 b script.blocks (work ∷ []) a n d is due (block ∙ sym (none_before b)) in

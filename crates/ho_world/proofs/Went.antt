@@ -1,6 +1,6 @@
 -- What an agent that works alone did, as parts of the list of entries: one part a command, each after those before it.
-use Rattle.std.proofs.Common.{◌≡◌, ℕ, ◌+◌, ◌<◌, ◌≤◌, List, [], ◌∷◌, ◌++◌, refl, sym, ap, subst, ◌∙◌, arith, get_or, append_assoc, zero, suc}
-use Rattle.std.specs.Prelude.{Option, None, Some, slice_get}
+use Rattle.std.proofs.Common.{◌≡◌, ℕ, ◌+◌, List, [], ◌∷◌, ◌++◌, refl, sym, ap, subst, ◌∙◌, get_or, append_assoc, zero, suc}
+use Rattle.std.specs.Prelude.{Option, Some, slice_get}
 use Rattle.std.proofs.lemmas.List.{append-nil}
 use Rattle.ho_events.specs.declared.command.Command.{Command}
 use Rattle.ho_events.specs.declared.entry.Entry.{Entry}
@@ -8,7 +8,7 @@ use Rattle.ho_events.specs.declared.slip.At.{At}
 use Rattle.ho_world.specs.World.{State}
 use Rattle.ho_world.specs.Acts.{Sequence}
 use Rattle.ho_world.specs.Sequences.{Labels, Outcome, command_acts}
-use Rattle.ho_world.specs.Logs.{Paired, AreDone, deeds_of, labels_after, DidOneMore, HasDone, before_at, known_all, paired_on}
+use Rattle.ho_world.specs.Logs.{Paired, AreDone, deeds_of, labels_after, HasDone, before_at, known_all, paired_on}
 
 -- one command more: its entries are `chunk`, after those before it
 pub record WentOn (Earlier : Labels → List Entry → At → Type 0) (begun : ℕ → Option State) (f : ℕ → List Entry) (c : Option Command) (labels : Labels) (es : List Entry) (at : At) : Type 0 where
