@@ -1,11 +1,11 @@
 -- What stands in a header, and a header from what stands in it.
-use Rattle.std.proofs.Common.{◌≡◌, ℕ, ◌+◌, ◌^◌, ◌<◌, ◌≤◌, List, ◌++◌, length, take, drop, get_or, refl, sym, ap, ◌∙◌, arith, inl, inr}
+use Rattle.std.proofs.Common.{◌≡◌, ℕ, ◌+◌, ◌^◌, ◌<◌, ◌≤◌, List, ◌++◌, length, take, drop, get_or, replicate, refl, sym, ap, ◌∙◌, arith, inl, inr}
 use Rattle.std.proofs.Math.Seq.{take-add}
 use Rattle.std.proofs.lemmas.Bool.{cases_lt}
 use Rattle.std.proofs.lemmas.List.{length-take, length-drop, drop_at, get_or-take, get_or-drop, get_or_past}
 use Rattle.std.proofs.lemmas.Nat.{from_le_bytes-to_le_bytes_8, le_bytes_8}
 use Rattle.std.specs.Int.{w64, to_le_bytes}
-use Rattle.ho_base.specs.Bytes.{u64_at}
+use Rattle.ho_base.specs.Bytes.{u64_at, with_u64_at}
 use Rattle.image_file.specs.Image.{header, image_word}
 
 pub header_length : (count entry : ℕ) → length (header count entry) ≡ 32
@@ -62,3 +62,11 @@ header_from bytes small long word last =
     ∙ (λ i. take-add 16 8 bytes i ++ zero i)
     ∙ (λ i. (take-add 8 8 bytes i ++ entry i) ++ to_le_bytes w64 0)
     ∙ (λ i. ((word i ++ count i) ++ to_le_bytes w64 (u64_at bytes 16)) ++ to_le_bytes w64 0)
+
+-- a header is written: the word, and two numbers put into the zeros after it
+pub header_written : (first second third : List ℕ) (n e count entry : ℕ) → n ≡ count → e ≡ entry → second ≡ with_u64_at first 8 n → third ≡ with_u64_at second 16 e
+    → first ≡ image_word ++ replicate 24 0 → third ≡ header count entry
+unfolding header image_word
+header_written first second third n e count entry same also f g h =
+    g ∙ ap (λ (l : List ℕ). with_u64_at l 16 e) (f ∙ ap (λ (l : List ℕ). with_u64_at l 8 n) h)
+    ∙ (λ i. with_u64_at (with_u64_at (image_word ++ replicate 24 0) 8 (same i)) 16 (also i))

@@ -98,3 +98,8 @@ filled_all size i bytes old now e h =
 pub all_home : (pages : List (List ℕ)) → All IsSome (map Some pages)
 all_home [] = All-nil IsSome
 all_home (page ∷ pages) = All-cons IsSome (Some page) (map Some pages) refl (all_home pages)
+
+-- the frames that were filled are those of the bytes behind the header
+pub frames_read : (size count : ℕ) (bytes part : List ℕ) (old now : Pages) → length old ≡ count → part ≡ drop 32 bytes → now ≡ map Some (chunks size (length old) part)
+    → now ≡ map Some (chunks size count (drop 32 bytes))
+frames_read size count bytes part old now e f g = g ∙ (λ i. map Some (chunks size (e i) (f i)))

@@ -1,5 +1,5 @@
 -- The image of a machine's frames: which bytes are one, and what is read from them.
-use Rattle.std.specs.Prelude.{◌≡◌, ℕ, ◌+◌, ◌*◌, ◌^◌, ◌<◌, ◌≤◌, Bool, ◌&&◌, ◌==◌, nat_lt, nat_le, if◌then◌else◌, List, [], ◌∷◌, ◌++◌, length, take, drop, map, get_or, codes, Option, Some, None, Result, Ok, Err}
+use Rattle.std.specs.Prelude.{◌≡◌, ℕ, ◌+◌, ◌*◌, ◌^◌, ◌<◌, ◌≤◌, Bool, ◌&&◌, ◌==◌, nat_lt, nat_le, if◌then◌else◌, List, [], ◌∷◌, ◌++◌, length, take, drop, map, get_or, codes, Option, Some, None}
 use Rattle.std.specs.Int.{w64, to_le_bytes}
 use Rattle.std.specs.List.{All, flat_map}
 use Rattle.std.specs.Cmp.Lexicographic.{pointwise}
@@ -31,40 +31,56 @@ page_bytes (Some bytes) = bytes
 unfoldable pub image : Pages → ℕ → List ℕ
 image pages entry = header (length pages) entry ++ flat_map page_bytes pages
 
+-- the first 8 bytes are the word
+unfoldable pub has_word : List ℕ → Bool
+has_word bytes = pointwise ◌==◌ (take 8 bytes) image_word
+
+-- how many frames a header says
+unfoldable pub count_of : List ℕ → ℕ
+count_of bytes = u64_at bytes 8
+
+-- the entry number of a header
+unfoldable pub entry_of : List ℕ → ℕ
+entry_of bytes = u64_at bytes 16
+
+-- the last number of a header
+unfoldable pub last_of : List ℕ → ℕ
+last_of bytes = u64_at bytes 24
+
 -- there are 32 bytes, the first 8 are the word, the number of frames is one that a machine has, and the last number is 0
 unfoldable pub has_header : List ℕ → Bool
 has_header bytes =
-    nat_le 32 (length bytes) && pointwise ◌==◌ (take 8 bytes) image_word
-    && nat_le MIN_FRAMES (u64_at bytes 8) && nat_le (u64_at bytes 8) MAX_FRAMES && u64_at bytes 24 == 0
+    nat_le 32 (length bytes) && has_word bytes && nat_le MIN_FRAMES (count_of bytes) && nat_le (count_of bytes) MAX_FRAMES && last_of bytes == 0
 
 -- how many bytes an image has whose header says so many frames
 abbrev pub size_of : ℕ → ℕ
 size_of count = 32 + count * PAGE_BYTES
 
+-- there are as many bytes as the header says, and a machine can have so many frames
+pub record IsSized (bytes : List ℕ) : Type 0 where
+  pub least : MIN_FRAMES ≤ count_of bytes
+  pub most : count_of bytes ≤ MAX_FRAMES
+  pub exact : length bytes ≡ size_of (count_of bytes)
+
 -- why bytes are no image: the first of the three faults that applies, none for an image
 unfoldable pub fault_of : List ℕ → Option ImageError
 fault_of bytes =
     if has_header bytes then
-      if nat_lt (length bytes) (size_of (u64_at bytes 8)) then Some Short
-      else if nat_lt (size_of (u64_at bytes 8)) (length bytes) then Some Extra
+      if nat_lt (length bytes) (size_of (count_of bytes)) then Some Short
+      else if nat_lt (size_of (count_of bytes)) (length bytes) then Some Extra
       else None
     else Some BadHeader
 
--- the fault that an answer tells: none where the bytes were an image and only memory was wanting
-abbrev pub fault_told : {T : Type 0} → Result T ImageError → Option ImageError
-fault_told (Ok read) = None
-fault_told (Err BadHeader) = Some BadHeader
-fault_told (Err Short) = Some Short
-fault_told (Err Extra) = Some Extra
-fault_told (Err Memory) = None
+-- the fault that an error tells: none where the bytes are an image and only memory was wanting
+abbrev pub fault_told : ImageError → Option ImageError
+fault_told BadHeader = Some BadHeader
+fault_told Short = Some Short
+fault_told Extra = Some Extra
+fault_told Memory = None
 
 -- the frames of an image, all home: behind the header, so many times 4096 bytes
 unfoldable pub frames_of : List ℕ → Pages
-frames_of bytes = map Some (chunks PAGE_BYTES (u64_at bytes 8) (drop 32 bytes))
-
--- the entry number of an image
-abbrev pub entry_of : List ℕ → ℕ
-entry_of bytes = u64_at bytes 16
+frames_of bytes = map Some (chunks PAGE_BYTES (count_of bytes) (drop 32 bytes))
 
 -- a frame that is home, with a page of bytes
 abbrev pub IsPage : ℕ → Option (List ℕ) → Type 0
