@@ -66,9 +66,9 @@ pub record IsSized (bytes : List ℕ) : Type 0 where
 unfoldable pub fault_of : List ℕ → Option ImageError
 fault_of bytes =
     if has_header bytes then
-      if nat_lt (length bytes) (size_of (count_of bytes)) then Some Short
-      else if nat_lt (size_of (count_of bytes)) (length bytes) then Some Extra
-      else None
+    if nat_lt (length bytes) (size_of (count_of bytes)) then Some Short
+    else if nat_lt (size_of (count_of bytes)) (length bytes) then Some Extra
+    else None
     else Some BadHeader
 
 -- the fault that an error tells: none where the bytes are an image and only memory was wanting

@@ -51,7 +51,12 @@ fn entry_in(alloc: Global, bytes: &[u8]) -> Result<u64, ImageError> {
 }
 
 /// So many bytes: a header with another first byte and these numbers, and then zeros.
-fn bytes_of(alloc: Global, len: usize, first: u8, numbers: [u64; 3]) -> Result<Vec<u8>, AllocError> {
+fn bytes_of(
+    alloc: Global,
+    len: usize,
+    first: u8,
+    numbers: [u64; 3],
+) -> Result<Vec<u8>, AllocError> {
     let mut bytes = vec![in alloc; 0u8; len.max(32)]?;
     bytes[..8].copy_from_slice(b"KHOIMG1\n");
     bytes[0] = first;
@@ -113,7 +118,12 @@ fn bytes_are_read_or_refused(rt: HostRuntime) -> Result<(), Fail> {
         (32, b'K', [16_384, 7, 0], Err(ImageError::Short)),
         (32, b'K', [16_385, 7, 0], Err(ImageError::BadHeader)),
         (131_104, b'K', [31, 7, 0], Err(ImageError::BadHeader)),
-        (131_104, b'K', [4_294_967_328, 7, 0], Err(ImageError::BadHeader)),
+        (
+            131_104,
+            b'K',
+            [4_294_967_328, 7, 0],
+            Err(ImageError::BadHeader),
+        ),
         (131_104, b'k', [32, 7, 0], Err(ImageError::BadHeader)),
         (131_104, b'K', [32, 7, 1], Err(ImageError::BadHeader)),
         (31, b'K', [32, 7, 0], Err(ImageError::BadHeader)),
