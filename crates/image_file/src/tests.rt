@@ -4,11 +4,11 @@ ghost use Rattle.std.specs.Prelude.{◌≡◌, IfOk};
 
 use crate::{ImageError, law_of_images, read_image, write_image};
 use ho_base::bytes::put_u64;
-use ho_base::numbers::{Blob, Pfn};
+use ho_base::numbers::Pfn;
 use ho_base::shape::{Area, Shape};
 use ho_io::{Host, MemHost};
 use phys_frames::Frames;
-use scratch_area::{Handoff, load_blob};
+use scratch_area::Handoff;
 use std::alloc::{AllocError, Global};
 use std::test::Fail;
 
@@ -72,11 +72,7 @@ fn an_image_is_written_and_read_back(rt: HostRuntime) -> Result<(), Fail> {
     law_of_images();
     let shape = shape_of_64(rt.alloc())?;
     let mut frames = Frames::zeroed(rt.alloc(), 64).expect(&rt, "memory");
-    let blob = Blob {
-        version: 7,
-        frames: 3,
-    };
-    load_blob(&mut frames, Pfn(61), blob);
+    frames.page_mut(Pfn(63))[4095] = 7;
     assert!(rt; frames.all_home());
     let handoff = Handoff {
         frames,
@@ -95,8 +91,7 @@ fn an_image_is_written_and_read_back(rt: HostRuntime) -> Result<(), Fail> {
             assert_eq!(rt; entry, 9);
             assert_eq!(rt; copy.count(), 64);
             copy.end();
-            assert_eq!(rt; image[258_080], 7);
-            assert_eq!(rt; image[258_088], 2);
+            assert_eq!(rt; image[262_175], 7);
         }
     }
     let Handoff {
