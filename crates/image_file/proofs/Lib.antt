@@ -1,0 +1,5 @@
+pub mod BothWays
+pub mod Faults
+pub mod Headers
+pub mod Pages
+pub mod Wrote

@@ -1,0 +1,14 @@
+//! Images of a machine's frames as files: written to any sink, and read from bytes.
+#![tactic(auto)]
+
+mod header;
+mod laws;
+mod reader;
+mod writer;
+
+pub use laws::law_of_images;
+pub use reader::{ImageError, read_image};
+pub use writer::write_image;
+
+#[cfg(test)]
+mod tests;
