@@ -1,0 +1,14 @@
+mod Needs
+mod Fronts
+mod Slots
+mod Apart
+mod Chains
+mod InTurn
+mod Records
+mod Once
+mod Found
+mod FoundSlots
+mod FoundChains
+mod FoundTurns
+mod FoundRecords
+mod FoundKept

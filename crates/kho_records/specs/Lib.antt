@@ -1,0 +1,10 @@
+pub mod Ram
+pub mod Sheets
+pub mod Rules
+pub mod Handover
+pub mod Kept
+pub mod Owners
+pub mod Carries
+pub mod Reading
+pub mod State
+pub mod Laws
