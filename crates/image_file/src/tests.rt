@@ -91,7 +91,7 @@ fn an_image_is_written_and_read_back(rt: HostRuntime) -> Result<(), Fail> {
             assert_eq!(rt; entry, 9);
             assert_eq!(rt; copy.count(), 64);
             copy.end();
-            assert_eq!(rt; image[262_175], 7);
+            assert_eq!(rt; image.get(262_175).copied(), Some(7));
         }
     }
     let Handoff {
