@@ -12,26 +12,28 @@ use Rattle.kho_records.specs.Rules.{version_1, SLOTS, is_file_slot, is_file_shee
 use Rattle.kho_records.specs.Reading.{Front, also, are_zero, front_at, items_at, chain_at, sheet_at, file_slot_at, file_layout}
 use Rattle.kho_records.specs.Slots.{kept_if, file_kept}
 use Rattle.kho_records.specs.Fronts.{has_head, tokens_rise, file_front_at}
-use Rattle.kho_records.proofs.OneSheet.{alone, one_sheet, alone_chain, kept_items, items_long, and_true, cond_none, also_cond}
+use Rattle.kho_records.proofs.OneSheet.{alone, one_sheet, alone_chain, kept_items, items_long, zero_plus, cond_none, also_cond}
 
 -- the tests of a frame with so many slots
-abbrev file_test : ℕ → ℕ → ℕ → List FileSlot → ℕ → Bool
-file_test before files long slots next =
-    (nat_le long SLOTS && (next == 0 || (false && long == SLOTS))) && list_all is_file_slot slots && nat_le (0 + long) SESSION_FILES
-    && nat_le (before + (0 + long)) FILES && tokens_rise slots && (nat_lt 0 next || 0 + long == files)
+abbrev file_test : ℕ → ℕ → ℕ → ℕ → List FileSlot → ℕ → Bool
+file_test before files long sum slots next =
+    (nat_le long SLOTS && (next == 0 || (false && long == SLOTS))) && list_all is_file_slot slots && nat_le sum SESSION_FILES
+    && nat_le (before + sum) FILES && tokens_rise slots && (nat_lt 0 next || sum == files)
 
 -- the tests of the frame, of its head, of how many slots there are, of each slot, and of their order
-file_tests : (fresh zeros few all each rise count : Bool) (next : ℕ) (f : Option (Front FileSlot)) (slots : List FileSlot) → f ≡ Some (record { next = next; items = slots })
-    → cond fresh (cond (few && zeros) (cond ((few && (next == 0 || false)) && each && few && all && rise && (nat_lt 0 next || count)) f None) None) None
-    ≡ alone (cond (fresh && ((next == 0) && zeros) && count && few && all) (kept_if (λ x. rise) (cond each (Some slots) None)) None)
-file_tests false zeros few all each rise count next f slots e = refl
-file_tests true zeros few all each rise count (suc next) f slots e = at_tests zeros few
+file_tests : (fresh zeros few all each rise count last more : Bool) (f : Option (Front FileSlot)) (slots : List FileSlot) → (last ≡ true → more ≡ false)
+    → (last ≡ true → f ≡ Some (record { next = 0; items = slots }))
+    → cond fresh (cond (few && zeros) (cond ((few && (last || false)) && each && few && all && rise && (more || count)) f None) None) None
+    ≡ alone (cond (fresh && (last && zeros) && count && few && all) (kept_if (λ x. rise) (cond each (Some slots) None)) None)
+file_tests false zeros few all each rise count last more f slots m e = refl
+file_tests true zeros few all each rise count false more f slots m e = at_tests zeros few
   where
-    at_tests : (zeros few : Bool) → cond (few && zeros) (cond ((few && false) && each && few && all && rise && true) f None) None ≡ None
+    at_tests : (zeros few : Bool) → cond (few && zeros) (cond ((few && false) && each && few && all && rise && (more || count)) f None) None ≡ None
     at_tests zeros false = refl
     at_tests true true = refl
     at_tests false true = refl
-file_tests true zeros few all each rise count zero f slots e = at_tests zeros few all each rise count
+file_tests true zeros few all each rise count true more f slots m e =
+    ap (λ (b : Bool). cond (few && zeros) (cond ((few && true) && each && few && all && rise && (b || count)) f None) None) (m refl) ∙ at_tests zeros few all each rise count
   where
     at_tests : (zeros few all each rise count : Bool) → cond (few && zeros) (cond ((few && true) && each && few && all && rise && (false || count)) f None) None
         ≡ alone (cond (zeros && count && few && all) (kept_if (λ x. rise) (cond each (Some slots) None)) None)
@@ -47,7 +49,7 @@ file_tests true zeros few all each rise count zero f slots e = at_tests zeros fe
     at_tests true true true true false false = refl
     at_tests true true true true false true = refl
     at_tests true true true true true false = refl
-    at_tests true true true true true true = e
+    at_tests true true true true true true = e refl
 
 module _ (ram : Ram) (before files : ℕ) (seen : List ℕ) (at : ℕ) where
   abbrev k : ℕ
@@ -75,7 +77,7 @@ module _ (ram : Ram) (before files : ℕ) (seen : List ℕ) (at : ℕ) where
   all m = nat_le (before + m) FILES
 
   abbrev tested : Front FileSlot → Option (Front FileSlot)
-  tested f = cond (file_test before files (length f.items) f.items f.next) (Some f) None
+  tested f = cond (file_test before files (length f.items) (0 + length f.items) f.items f.next) (Some f) None
 
   abbrev inside : List ℕ → Option (List FileSlot) → Option (Front FileSlot)
   inside numbers o =
@@ -117,8 +119,10 @@ module _ (ram : Ram) (before files : ℕ) (seen : List ℕ) (at : ℕ) where
   at_slots (Some xs) e =
       let f : Front FileSlot = record { next = next; items = xs } in
       ap (λ (p : Option (Front FileSlot)). cond fresh p None) (also_cond (few k && zeros) f tested)
-      ∙ ap (λ (n : ℕ). cond fresh (cond (few k && zeros) (cond (file_test before files n xs next) (Some f) None) None) None) (items_long 128 file_slot_at k rest xs e)
-      ∙ file_tests fresh zeros (few k) (all k) (list_all is_file_slot xs) (tokens_rise xs) (k == files) next (Some f) xs refl
+      ∙ ap (λ (n : ℕ). cond fresh (cond (few k && zeros) (cond (file_test before files n (0 + n) xs next) (Some f) None) None) None) (items_long 128 file_slot_at k rest xs e)
+      ∙ ap (λ (n : ℕ). cond fresh (cond (few k && zeros) (cond (file_test before files k n xs next) (Some f) None) None) None) (zero_plus k)
+      ∙ file_tests fresh zeros (few k) (all k) (list_all is_file_slot xs) (tokens_rise xs) (k == files) (next == 0) (nat_lt 0 next) (Some f) xs (λ h. ap (nat_lt 0) (eqb-true next 0 h))
+        (λ h. ap (λ (n : ℕ). Some (record { next = n; items = xs })) (eqb-true next 0 h))
       ∙ ap (λ (p : Option (List FileSlot)). alone (cond (head && k == files && few k && all k) p None)) (kept_twice xs (list_all is_file_slot xs))
 
   file_sheet_is : sheet_at ram file_layout (is_file_sheet version_1 before files) seen [] at ≡ alone (file_front_at ram before files seen at)

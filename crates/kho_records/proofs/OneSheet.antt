@@ -2,7 +2,7 @@
 use Rattle.std.proofs.Common.{◌≡◌, ℕ, zero, suc, ◌+◌, ◌-◌, ◌<◌, ◌≤◌, eqb, Bool, true, false, cond, List, [], ◌∷◌, ◌++◌, length, take, drop, map, Option, Some, None, Result, Ok, Err, refl, sym, ap, subst, ◌∙◌, arith}
 use Rattle.std.specs.Prelude.{not, ◌&&◌, ◌||◌, ◌==◌, nat_lt, nat_le, nat_eq}
 use Rattle.std.specs.List.{list_all, list_any}
-use Rattle.std.proofs.lemmas.Bool.{leb-true, le-leb}
+use Rattle.std.proofs.lemmas.Bool.{leb-true, le-leb, eqb-true}
 use Rattle.std.proofs.lemmas.Bool.Decides.{nat_tests}
 use Rattle.ho_base.specs.Bytes.{u64_at}
 use Rattle.ho_base.specs.declared.limits.TheConstants.{OUT_SLOTS, SESSION_FILES, FILES}
@@ -66,14 +66,15 @@ module _ {E : Type 0} where
   pub items_long : (size : ℕ) (item : List ℕ → Option E) (k : ℕ) (bytes : List ℕ) (xs : List E) → items_at size item k bytes ≡ Some xs → length xs ≡ k
   items_long size item zero bytes [] e = refl
   items_long size item zero bytes (x ∷ xs) e = absurd cc
-  items_long size item (suc k) bytes xs e = at_first (item (take size bytes)) e
+  items_long size item (suc k) bytes xs e = at_first (item (take size bytes)) (items_long size item k (drop size bytes)) e
     where
-      at_rest : (x : E) (o : Option (List E)) → items_at size item k (drop size bytes) ≡ o → also o (λ ys. Some (x ∷ ys)) ≡ Some xs → length xs ≡ suc k
+      at_rest : (x : E) (o : Option (List E)) → ((ys : List E) → o ≡ Some ys → length ys ≡ k) → also o (λ ys. Some (x ∷ ys)) ≡ Some xs → length xs ≡ suc k
       at_rest x None h e = absurd cc
-      at_rest x (Some ys) h e = let s : xs ≡ x ∷ ys = cc in ap length s ∙ ap suc (items_long size item k (drop size bytes) ys h)
-      at_first : (o : Option E) → also o (λ x. also (items_at size item k (drop size bytes)) (λ ys. Some (x ∷ ys))) ≡ Some xs → length xs ≡ suc k
-      at_first None e = absurd cc
-      at_first (Some x) e = at_rest x (items_at size item k (drop size bytes)) refl e
+      at_rest x (Some ys) h e = let s : x ∷ ys ≡ xs = cc in ap length (sym s) ∙ ap suc (h ys refl)
+      at_first : (o : Option E) → ((ys : List E) → items_at size item k (drop size bytes) ≡ Some ys → length ys ≡ k)
+          → also o (λ x. also (items_at size item k (drop size bytes)) (λ ys. Some (x ∷ ys))) ≡ Some xs → length xs ≡ suc k
+      at_first None h e = absurd cc
+      at_first (Some x) h e = at_rest x (items_at size item k (drop size bytes)) h e
 
 -- ---- the session frame
 
@@ -84,48 +85,50 @@ and_true false = refl
 few : (k : ℕ) → nat_le k OUT_SLOTS ≡ true → nat_le k SLOTS ≡ true
 few k h = le-leb k SLOTS (omega (arith, leb-true k OUT_SLOTS h))
 
-abbrev session_test : ℕ → List SessionSlot → ℕ → Bool
-session_test long slots next =
-    (nat_le long SLOTS && (next == 0 || (false && long == SLOTS))) && list_all (is_session_slot version_1) slots && nat_le (0 + long) OUT_SLOTS && names_rise slots
+abbrev session_test : ℕ → ℕ → List SessionSlot → ℕ → Bool
+session_test long sum slots next =
+    (nat_le long SLOTS && (next == 0 || (false && long == SLOTS))) && list_all (is_session_slot version_1) slots && nat_le sum OUT_SLOTS && names_rise slots
 
 -- the tests of the frame, of its head, of how many slots there are, of each slot, and of their order
-session_tests : (frame zeros few_31 few_16 each rise : Bool) (next : ℕ) (f : Option (Front SessionSlot)) (slots : List SessionSlot) → (few_16 ≡ true → few_31 ≡ true)
-    → f ≡ Some (record { next = next; items = slots })
-    → cond frame (cond (few_31 && zeros) (cond (few_31 && (next == 0 || false) && each && few_16 && rise) f None) None) None
-    ≡ alone (cond (frame && ((next == 0) && zeros) && few_16) (kept_if (λ x. rise) (cond each (Some slots) None)) None)
-session_tests false zeros few_31 few_16 each rise next f slots h e = refl
-session_tests true zeros few_31 few_16 each rise zero f slots h e = at_zeros zeros few_31 few_16 each rise h
+session_tests : (frame zeros few_31 few_16 each rise last : Bool) (f : Option (Front SessionSlot)) (slots : List SessionSlot) → (few_16 ≡ true → few_31 ≡ true)
+    → (last ≡ true → f ≡ Some (record { next = 0; items = slots }))
+    → cond frame (cond (few_31 && zeros) (cond ((few_31 && (last || false)) && each && few_16 && rise) f None) None) None
+    ≡ alone (cond (frame && (last && zeros) && few_16) (kept_if (λ x. rise) (cond each (Some slots) None)) None)
+session_tests false zeros few_31 few_16 each rise last f slots h e = refl
+session_tests true zeros few_31 few_16 each rise true f slots h e = at_zeros zeros few_31 few_16 each rise h
   where
+    no : false ≡ true → ⊥
+    no x = cc
     at_zeros : (zeros few_31 few_16 each rise : Bool) → (few_16 ≡ true → few_31 ≡ true)
-        → cond (few_31 && zeros) (cond (few_31 && true && each && few_16 && rise) f None) None ≡ alone (cond (zeros && few_16) (kept_if (λ x. rise) (cond each (Some slots) None)) None)
+        → cond (few_31 && zeros) (cond ((few_31 && true) && each && few_16 && rise) f None) None ≡ alone (cond (zeros && few_16) (kept_if (λ x. rise) (cond each (Some slots) None)) None)
     at_zeros false true few_16 each rise h = refl
     at_zeros false false few_16 each rise h = refl
     at_zeros true true false true rise h = refl
     at_zeros true true false false rise h = refl
-    at_zeros true true true true true h = e
+    at_zeros true true true true true h = e refl
     at_zeros true true true true false h = refl
     at_zeros true true true false rise h = refl
     at_zeros true false true each rise h = absurd (no (h refl))
-      where
-        no : false ≡ true → ⊥
-        no x = cc
     at_zeros true false false each rise h = refl
-session_tests true zeros few_31 few_16 each rise (suc next) f slots h e = at_tests zeros few_31
+session_tests true zeros few_31 few_16 each rise false f slots h e = at_tests zeros few_31
   where
-    at_tests : (zeros few_31 : Bool) → cond (few_31 && zeros) (cond (few_31 && false && each && few_16 && rise) f None) None ≡ None
+    at_tests : (zeros few_31 : Bool) → cond (few_31 && zeros) (cond ((few_31 && false) && each && few_16 && rise) f None) None ≡ None
     at_tests zeros false = refl
     at_tests true true = refl
     at_tests false true = refl
 
-pub cond_none : {A : Type 0} (b : Bool) → cond b None (None {A = A}) ≡ None
+pub cond_none : {A : Type 0} (b : Bool) → cond {A = Option A} b None None ≡ None
 cond_none true = refl
 cond_none false = refl
+
+pub zero_plus : (n : ℕ) → 0 + n ≡ n
+zero_plus n = omega arith
 
 session_steps : (ram : Ram) (at : ℕ) → sheet_at ram session_layout (is_session_sheet version_1) [] [] at
     ≡ cond (is_frame ram.count at && true)
       (also (cond (nat_le (u64_at (ram.page at) 8) SLOTS && are_zero (take 112 (drop 16 (ram.page at))))
         (also (items_at 128 session_slot_at (u64_at (ram.page at) 8) (drop 128 (ram.page at))) (λ items. Some (record { next = u64_at (ram.page at) 0; items = items }))) None)
-        (λ f. cond (session_test (length f.items) f.items f.next) (Some f) None)) None
+        (λ f. cond (session_test (length f.items) (0 + length f.items) f.items f.next) (Some f) None)) None
 unfolding sheet_at front_at
 session_steps ram at = refl
 
@@ -168,7 +171,7 @@ module _ (ram : Ram) (at : ℕ) where
   each xs = list_all (is_session_slot version_1) xs
 
   abbrev tested : Front SessionSlot → Option (Front SessionSlot)
-  tested f = cond (session_test (length f.items) f.items f.next) (Some f) None
+  tested f = cond (session_test (length f.items) (0 + length f.items) f.items f.next) (Some f) None
 
   abbrev inside : Option (List SessionSlot) → Option (Front SessionSlot)
   inside o = cond (frame && true) (also (cond (few_31 && zeros) (also o (λ xs. Some (record { next = next; items = xs }))) None) tested) None
@@ -192,8 +195,9 @@ module _ (ram : Ram) (at : ℕ) where
       let rise : Bool = names_rise xs in
       ap (λ (b : Bool). cond b (also (cond (few_31 && zeros) (Some f) None) tested) None) (and_true frame)
       ∙ ap (λ (p : Option (Front SessionSlot)). cond frame p None) (also_cond (few_31 && zeros) f tested)
-      ∙ ap (λ (n : ℕ). cond frame (cond (few_31 && zeros) (cond (session_test n xs next) (Some f) None) None) None) (items_long 128 session_slot_at k (drop 128 (ram.page at)) xs e)
-      ∙ session_tests frame zeros few_31 few_16 (each xs) rise next (Some f) xs (few k) refl
+      ∙ ap (λ (n : ℕ). cond frame (cond (few_31 && zeros) (cond (session_test n (0 + n) xs next) (Some f) None) None) None) (items_long 128 session_slot_at k (drop 128 (ram.page at)) xs e)
+      ∙ ap (λ (n : ℕ). cond frame (cond (few_31 && zeros) (cond (session_test k n xs next) (Some f) None) None) None) (zero_plus k)
+      ∙ session_tests frame zeros few_31 few_16 (each xs) rise (next == 0) (Some f) xs (few k) (λ h. ap (λ (n : ℕ). Some (record { next = n; items = xs })) (eqb-true next 0 h))
       ∙ sym (ap (λ (p : Option (List SessionSlot)). alone (cond whole_head p None)) (kept_twice xs (each xs)))
 
   pub session_sheet_is : sheet_at ram session_layout (is_session_sheet version_1) [] [] at ≡ alone (session_front_at ram at)

@@ -28,13 +28,16 @@ fn has_head(page: &[u8]) -> bool
 }
 
 /// Whether one name stands before another in the order of bytes.
+#[tactic(auto, using(crate::proofs::FrontTests::before_none))]
 fn is_before(one: &[u8], other: &[u8]) -> bool
     ensures { result ≡ bytes_before one.now other.now }
 {
-    match (one.split_first(), other.split_first()) {
-        (_, None) => false,
-        (None, Some(_)) => true,
-        (Some((a, one)), Some((b, other))) => a < b || (a == b && is_before(one, other)),
+    match other.split_first() {
+        None => false,
+        Some((b, others)) => match one.split_first() {
+            None => true,
+            Some((a, ones)) => *a < *b || (*a == *b && is_before(ones, others)),
+        },
     }
 }
 
