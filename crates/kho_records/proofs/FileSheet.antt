@@ -1,5 +1,5 @@
 -- In version 1 a file frame is the only one of its chain, and is as the program reads it.
-use Rattle.std.proofs.Common.{◌≡◌, ℕ, zero, suc, ◌+◌, ◌-◌, ◌<◌, ◌≤◌, eqb, Bool, true, false, cond, List, [], ◌∷◌, ◌++◌, length, take, drop, map, Option, Some, None, Result, Ok, Err, refl, sym, ap, subst, ◌∙◌, arith, append-nil}
+use Rattle.std.proofs.Common.{◌≡◌, ℕ, ◌+◌, eqb, Bool, true, false, cond, List, [], ◌++◌, length, take, drop, Option, Some, None, refl, sym, ap, ◌∙◌, arith, append-nil}
 use Rattle.std.specs.Prelude.{not, ◌&&◌, ◌||◌, ◌==◌, nat_lt, nat_le, nat_eq}
 use Rattle.std.specs.List.{list_all, list_any}
 use Rattle.std.proofs.lemmas.Bool.{eqb-true}
@@ -122,21 +122,21 @@ module _ (ram : Ram) (before files : ℕ) (seen : List ℕ) (at : ℕ) where
       ∙ ap (λ (n : ℕ). cond fresh (cond (few k && zeros) (cond (file_test before files n (0 + n) xs next) (Some f) None) None) None) (items_long 128 file_slot_at k rest xs e)
       ∙ ap (λ (n : ℕ). cond fresh (cond (few k && zeros) (cond (file_test before files k n xs next) (Some f) None) None) None) (zero_plus k)
       ∙ file_tests fresh zeros (few k) (all k) (list_all is_file_slot xs) (tokens_rise xs) (k == files) (next == 0) (nat_lt 0 next) (Some f) xs (λ h. ap (nat_lt 0) (eqb-true next 0 h))
-        (λ h. ap (λ (n : ℕ). Some (record { next = n; items = xs })) (eqb-true next 0 h))
+      (λ h. ap (λ (n : ℕ). Some (record { next = n; items = xs })) (eqb-true next 0 h))
       ∙ ap (λ (p : Option (List FileSlot)). alone (cond (head && k == files && few k && all k) p None)) (kept_twice xs (list_all is_file_slot xs))
 
   file_sheet_is : sheet_at ram file_layout (is_file_sheet version_1 before files) seen [] at ≡ alone (file_front_at ram before files seen at)
   file_sheet_is =
       file_steps ∙ ap (λ (l : List ℕ). inside l slots) (append-nil seen) ∙ at_slots slots refl
       ∙ ap (λ (p : Option (List FileSlot)). alone p) (swap (k == files) refl
-        ∙ ap (λ (p : Option (List FileSlot)). cond (head && k == files && few files && all files) (kept_if tokens_rise p) None) (sym (kept_items 128 file_slot_at is_file_slot files rest))
-        ∙ sym file_reads)
+      ∙ ap (λ (p : Option (List FileSlot)). cond (head && k == files && few files && all files) (kept_if tokens_rise p) None) (sym (kept_items 128 file_slot_at is_file_slot files rest))
+      ∙ sym file_reads)
 
   no_frame : ram.count ≡ 0 → file_front_at ram before files seen at ≡ None
   no_frame h =
       let out : is_frame ram.count at ≡ false = grind (arith, nat_tests) in
       file_reads ∙ ap (λ (b : Bool). cond (b && not (list_any (nat_eq at) seen) && has_head (ram.page at) && k == files && few files && all files)
-        (kept_if tokens_rise (items_at 128 (λ b. kept_if is_file_slot (file_slot_at b)) files rest)) None) out
+      (kept_if tokens_rise (items_at 128 (λ b. kept_if is_file_slot (file_slot_at b)) files rest)) None) out
 
   -- the file frame alone is the whole chain
   pub file_chain : chain_at ram file_layout (is_file_sheet version_1 before files) seen at ≡ one_sheet at (file_front_at ram before files seen at)

@@ -1,5 +1,5 @@
 -- Items of a frame that are read one by one.
-use Rattle.std.proofs.Common.{◌≡◌, ℕ, zero, suc, ◌+◌, ◌-◌, ◌*◌, ◌<◌, ◌≤◌, List, [], ◌∷◌, ◌++◌, length, take, drop, map, Option, Some, None, refl, sym, ap, ◌∙◌, arith, append_assoc}
+use Rattle.std.proofs.Common.{◌≡◌, ℕ, suc, ◌+◌, ◌-◌, ◌*◌, ◌<◌, List, [], ◌∷◌, ◌++◌, take, drop, map, Option, Some, None, refl, sym, ap, ◌∙◌, arith, append_assoc}
 use Rattle.std.proofs.lemmas.List.{append-nil, drop-drop, map-append}
 use Rattle.kho_records.specs.Reading.{also, items_at}
 
@@ -20,7 +20,7 @@ module _ {R E : Type 0} (view : R → E) (size : ℕ) (item : List ℕ → Optio
       let next : size * i + size ≡ size * (i + 1) = mul_next size i in
       ap (λ (n : ℕ). items_at size item n (drop (size * i) bytes)) one
       ∙ ap (λ (l : List ℕ). also (item (piece i)) (λ x. also (items_at size item (k - (i + 1)) l) (λ xs. Some (x ∷ xs))))
-        (drop-drop size (size * i) bytes ∙ ap (λ (n : ℕ). drop n bytes) next)
+      (drop-drop size (size * i) bytes ∙ ap (λ (n : ℕ). drop n bytes) next)
     where
       mul_next : (s i : ℕ) → s * i + s ≡ s * (i + 1)
       mul_next s i = grind arith
@@ -41,7 +41,7 @@ module _ {R E : Type 0} (view : R → E) (size : ℕ) (item : List ℕ → Optio
   pub more : (i : ℕ) (xs new : List R) (x : R) → IsRead i xs → i < k → item (piece i) ≡ Some (view x) → new ≡ xs ++ x ∷ [] → IsRead (i + 1) new
   more i xs new x h lt e push =
       h ∙ ap (λ (o : Option (List E)). also o (λ rest. Some (map view xs ++ rest)))
-        (step i lt ∙ ap (λ (o : Option E). also o (λ y. also (after i) (λ ys. Some (y ∷ ys)))) e)
+      (step i lt ∙ ap (λ (o : Option E). also o (λ y. also (after i) (λ ys. Some (y ∷ ys)))) e)
       ∙ twice (after i)
       ∙ ap (λ (l : List E). also (after i) (λ rest. Some (l ++ rest))) (sym (ap (map view) push ∙ map-append view xs (x ∷ [])))
     where
@@ -52,7 +52,7 @@ module _ {R E : Type 0} (view : R → E) (size : ℕ) (item : List ℕ → Optio
   pub refused : (i : ℕ) (xs : List R) → IsRead i xs → i < k → item (piece i) ≡ None → items_at size item k bytes ≡ None
   refused i xs h lt e =
       h ∙ ap (λ (o : Option (List E)). also o (λ rest. Some (map view xs ++ rest)))
-        (step i lt ∙ ap (λ (o : Option E). also o (λ y. also (after i) (λ ys. Some (y ∷ ys)))) e)
+      (step i lt ∙ ap (λ (o : Option E). also o (λ y. also (after i) (λ ys. Some (y ∷ ys)))) e)
 
   pub ended : (i : ℕ) (xs : List R) → IsRead i xs → i ≡ k → items_at size item k bytes ≡ Some (map view xs)
   ended i xs h e =

@@ -1,5 +1,5 @@
 -- A list frame as the program reads it is one of the chain; the numbers in it one by one.
-use Rattle.std.proofs.Common.{◌≡◌, ℕ, zero, suc, ◌+◌, ◌-◌, ◌*◌, ◌<◌, ◌≤◌, eqb, Bool, true, false, cond, List, [], ◌∷◌, ◌++◌, length, take, drop, map, Option, Some, None, refl, sym, ap, subst, ◌∙◌, arith, append_assoc}
+use Rattle.std.proofs.Common.{◌≡◌, ℕ, zero, suc, ◌+◌, ◌-◌, ◌*◌, ◌<◌, Bool, true, false, cond, List, [], ◌∷◌, ◌++◌, length, take, drop, Option, Some, None, refl, sym, ap, subst, ◌∙◌, arith, append_assoc}
 use Rattle.std.specs.List.{list_all, list_any}
 use Rattle.std.specs.Int.{w64, from_le_bytes}
 use Rattle.std.specs.Prelude.{not, ◌&&◌, ◌||◌, ◌==◌, nat_lt, nat_le, nat_eq}
@@ -44,9 +44,10 @@ IsRead n order k bytes i runs =
 
 pub read_begins : (n order k : ℕ) (bytes : List ℕ) (runs : List Pfn) → runs ≡ [] → IsRead n order k bytes 0 runs
 read_begins n order k bytes runs e =
-    let zero_less : k - 0 ≡ k = omega arith in
-    (ap (λ (r : List Pfn). firsts r ++ numbers_in (k - 0) (drop (8 * 0) bytes)) e ∙ ap (λ (m : ℕ). numbers_in m bytes) zero_less,
-     ap (λ (r : List Pfn). list_all (is_run n order) (firsts r)) e)
+    let zero_less : k - 0 ≡ k = omega arith in (
+      ap (λ (r : List Pfn). firsts r ++ numbers_in (k - 0) (drop (8 * 0) bytes)) e ∙ ap (λ (m : ℕ). numbers_in m bytes) zero_less,
+      ap (λ (r : List Pfn). list_all (is_run n order) (firsts r)) e,
+    )
 
 -- the numbers so far, the next one, and the rest
 split_at : (n order k i first : ℕ) (bytes : List ℕ) (runs : List Pfn) → IsRead n order k bytes i runs → i < k → first ≡ u64_at bytes (8 * i)
@@ -60,9 +61,10 @@ pub read_more : (n order k i first : ℕ) (bytes : List ℕ) (runs new : List Pf
 read_more n order k i first bytes runs new h lt e is push =
     let rest = numbers_in (k - (i + 1)) (drop (8 * (i + 1)) bytes) in
     let now : firsts new ≡ firsts runs ++ first ∷ [] = ap firsts push ∙ map-append (λ (p : Pfn). p.0) runs (run_at first ∷ []) in
-    let one : list_all (is_run n order) (first ∷ []) ≡ true = and_from (is_run n order first) true is refl in
-    (ap (λ (l : List ℕ). l ++ rest) now ∙ append_assoc (firsts runs) (first ∷ []) rest ∙ split_at n order k i first bytes runs h lt e,
-     ap (list_all (is_run n order)) now ∙ list_all-append (is_run n order) (firsts runs) (first ∷ []) ∙ and_from (list_all (is_run n order) (firsts runs)) (list_all (is_run n order) (first ∷ [])) h.1 one)
+    let one : list_all (is_run n order) (first ∷ []) ≡ true = and_from (is_run n order first) true is refl in (
+      ap (λ (l : List ℕ). l ++ rest) now ∙ append_assoc (firsts runs) (first ∷ []) rest ∙ split_at n order k i first bytes runs h lt e,
+      ap (list_all (is_run n order)) now ∙ list_all-append (is_run n order) (firsts runs) (first ∷ []) ∙ and_from (list_all (is_run n order) (firsts runs)) (list_all (is_run n order) (first ∷ [])) h.1 one,
+    )
 
 and_no : (a b : Bool) → b ≡ false → (a && b) ≡ false
 and_no true b h = h
@@ -82,15 +84,15 @@ read_none n order k i first bytes runs h lt e is =
     let rest = numbers_in (k - (i + 1)) (drop (8 * (i + 1)) bytes) in
     let test = list_all (is_run n order) in
     let all : test (numbers_in k bytes) ≡ false =
-        ap test (sym (split_at n order k i first bytes runs h lt e)) ∙ list_all-append (is_run n order) (firsts runs) (first ∷ rest)
-        ∙ and_no (test (firsts runs)) (test (first ∷ rest)) (no_and (is_run n order first) (test rest) is) in
+    ap test (sym (split_at n order k i first bytes runs h lt e)) ∙ list_all-append (is_run n order) (firsts runs) (first ∷ rest)
+    ∙ and_no (test (firsts runs)) (test (first ∷ rest)) (no_and (is_run n order first) (test rest) is) in
     kept_cond n order k bytes ∙ ap (λ (b : Bool). cond b (Some (numbers_in k bytes)) None) all
 
 pub read_all : (n order k i : ℕ) (bytes : List ℕ) (runs : List Pfn) → IsRead n order k bytes i runs → i ≡ k → runs_kept n order k bytes ≡ Some (firsts runs)
 read_all n order k i bytes runs h e =
     let none : k - i ≡ 0 = omega (arith, e) in
     let is : firsts runs ≡ numbers_in k bytes =
-        sym (append-nil (firsts runs)) ∙ ap (λ (l : List ℕ). firsts runs ++ l) (sym (ap (λ (m : ℕ). numbers_in m (drop (8 * i) bytes)) none ∙ numbers_none (drop (8 * i) bytes))) ∙ h.0 in
+    sym (append-nil (firsts runs)) ∙ ap (λ (l : List ℕ). firsts runs ++ l) (sym (ap (λ (m : ℕ). numbers_in m (drop (8 * i) bytes)) none ∙ numbers_none (drop (8 * i) bytes))) ∙ h.0 in
     kept_cond n order k bytes
     ∙ ap (λ (l : List ℕ). cond (list_all (is_run n order) l) (Some l) None) (sym is)
     ∙ ap (λ (b : Bool). cond b (Some (firsts runs)) None) h.1
@@ -150,15 +152,15 @@ tested n order folios before f = cond (a_list n order folios before f.items f.ne
 chain_steps : (ram : Ram) (order folios : ℕ) (seen : List ℕ) (earlier : List (Sheet ℕ)) (at : ℕ)
     → sheet_at ram list_layout (is_list_sheet ram.count order folios) seen earlier at
     ≡ cond (is_frame ram.count at && not (list_any (nat_eq at) (seen ++ numbers_of earlier)))
-      (also (with_items (u64_at (ram.page at) 0) (u64_at (ram.page at) 8) (items_at 8 listed_at (u64_at (ram.page at) 8) (drop 16 (ram.page at))))
-        (tested ram.count order folios (length (items_of earlier)))) None
+    (also (with_items (u64_at (ram.page at) 0) (u64_at (ram.page at) 8) (items_at 8 listed_at (u64_at (ram.page at) 8) (drop 16 (ram.page at))))
+    (tested ram.count order folios (length (items_of earlier)))) None
 unfolding sheet_at front_at
 chain_steps ram order folios seen earlier at = refl
 
 front_steps : (ram : Ram) (order folios before : ℕ) (seen : List ℕ) (at : ℕ)
     → list_front_at ram order folios before seen at
     ≡ cond (is_frame ram.count at && not (list_any (nat_eq at) seen) && has_count (u64_at (ram.page at) 8) (u64_at (ram.page at) 0) before folios)
-      (front_with (u64_at (ram.page at) 0) (runs_kept ram.count order (u64_at (ram.page at) 8) (drop 16 (ram.page at)))) None
+    (front_with (u64_at (ram.page at) 0) (runs_kept ram.count order (u64_at (ram.page at) 8) (drop 16 (ram.page at)))) None
 unfolding list_front_at
 front_steps ram order folios before seen at = refl
 
@@ -181,10 +183,10 @@ front_of_chain ram order folios seen earlier at =
     let e : Bool = nat_lt 0 next || before + k == folios in
     let P : ℕ → Bool = λ n. nat_lt 0 n && nat_le n LISTED && (next == 0 || n == LISTED) && runs && (nat_lt 0 next || before + n == folios) in
     let inside : also (with_items next k (Some xs)) (tested ram.count order folios before) ≡ cond (has_count k next before folios) (cond runs (Some f) None) None =
-        ap (λ (b : Bool). also (cond b (Some f) None) (tested ram.count order folios before)) (and_true a)
-        ∙ also_cond a f (tested ram.count order folios before)
-        ∙ ap (λ (n : ℕ). cond a (cond (P n) (Some f) None) None) (numbers_long k rest)
-        ∙ tests (Some f) z a m runs e in
+    ap (λ (b : Bool). also (cond b (Some f) None) (tested ram.count order folios before)) (and_true a)
+    ∙ also_cond a f (tested ram.count order folios before)
+    ∙ ap (λ (n : ℕ). cond a (cond (P n) (Some f) None) None) (numbers_long k rest)
+    ∙ tests (Some f) z a m runs e in
     chain_steps ram order folios seen earlier at
     ∙ ap (λ (o : Option (List ℕ)). cond fresh (also (with_items next k o) (tested ram.count order folios before)) None) (numbers_all k rest)
     ∙ ap (λ (o : Option (Front ℕ)). cond fresh o None) inside
@@ -235,7 +237,7 @@ front_from ram order folios before seen at next k n page rest r frame unread cou
     let k_at : k ≡ u64_at (ram.page at) 8 = is_k ∙ ap (λ (l : List ℕ). u64_at l 8) is_page in
     let rest_at : rest ≡ drop 16 (ram.page at) = is_rest ∙ ap (λ (l : List ℕ). drop 16 l) is_page in
     let count_at : has_count (u64_at (ram.page at) 8) (u64_at (ram.page at) 0) before folios ≡ true =
-        ap (λ (x : ℕ). has_count x (u64_at (ram.page at) 0) before folios) (sym k_at) ∙ ap (λ (x : ℕ). has_count k x before folios) (sym next_at) ∙ count in
+    ap (λ (x : ℕ). has_count x (u64_at (ram.page at) 0) before folios) (sym k_at) ∙ ap (λ (x : ℕ). has_count k x before folios) (sym next_at) ∙ count in
     with_runs ram order folios before seen at frame unread count_at
     ∙ ap (λ (x : ℕ). front_with x (runs_kept ram.count order (u64_at (ram.page at) 8) (drop 16 (ram.page at)))) (sym next_at)
     ∙ ap (λ (x : ℕ). front_with next (runs_kept ram.count order x (drop 16 (ram.page at)))) (sym k_at)

@@ -1,6 +1,5 @@
 -- The loop over list frames.
-use Rattle.std.proofs.Common.{◌≡◌, ℕ, zero, suc, ◌+◌, ◌-◌, ◌<◌, ◌≤◌, eqb, Bool, true, false, List, [], ◌∷◌, ◌++◌, length, map, Option, Some, None, Result, Ok, Err, refl, sym, ap, subst, ◌∙◌, arith, append_assoc}
-use Rattle.std.specs.List.{flat_map}
+use Rattle.std.proofs.Common.{◌≡◌, ℕ, ◌+◌, ◌-◌, ◌<◌, List, [], ◌∷◌, ◌++◌, length, Option, Some, None, Ok, Err, refl, sym, ap, ◌∙◌, append_assoc}
 use Rattle.std.proofs.lemmas.List.{append-nil, map-append, length-append, length-map}
 use Rattle.std.proofs.lemmas.List.Concat.{flat_map-append}
 use Rattle.std.proofs.lemmas.Bool.{ne_eqb}
@@ -10,7 +9,6 @@ use Rattle.kho_records.specs.Ram.{Ram}
 use Rattle.kho_records.specs.Sheets.{Sheet, items_of, numbers_of}
 use Rattle.kho_records.specs.Rules.{is_list_sheet}
 use Rattle.kho_records.specs.Reading.{Front, sheet_at, chain_at, chain_from, list_layout}
-use Rattle.kho_records.specs.Slots.{Gives}
 use Rattle.kho_records.specs.Sheeted.{list_front_at}
 use Rattle.kho_records.specs.Lists.{front_view, sheet_view, sheet_views}
 use Rattle.kho_records.specs.declared.lists.ListSheet.{ListSheet}
@@ -72,10 +70,10 @@ module _ (ram : Ram) (order folios : ℕ) (old : List ℕ) where
       → chain_at ram list_layout (is_list_sheet ram.count order folios) old first ≡ Ok (sheet_views new)
   ends first fuel before at seen sheets new s f h lt e same runs last push =
       let now : read (sheet_views sheets) at ≡ Some (record { next = 0; items = firsts f.runs.items }) =
-          as_read first fuel before at seen sheets (Some (front_view f)) h e ∙ ap (λ (n : ℕ). Some (record { next = n; items = firsts f.runs.items })) last in
+      as_read first fuel before at seen sheets (Some (front_view f)) h e ∙ ap (λ (n : ℕ). Some (record { next = n; items = firsts f.runs.items })) last in
       let pushed : sheet_views sheets ++ (record { at = at; items = firsts f.runs.items }) ∷ [] ≡ sheet_views new =
-          ap (λ (p : ℕ). sheet_views sheets ++ (record { at = p; items = firsts f.runs.items }) ∷ []) (sym same)
-          ∙ ap (λ (l : List Pfn). sheet_views sheets ++ (record { at = s.at; items = firsts l }) ∷ []) (sym runs) ∙ sym (views_push sheets new s push) in
+      ap (λ (p : ℕ). sheet_views sheets ++ (record { at = p; items = firsts f.runs.items }) ∷ []) (sym same)
+      ∙ ap (λ (l : List Pfn). sheet_views sheets ++ (record { at = s.at; items = firsts l }) ∷ []) (sym runs) ∙ sym (views_push sheets new s push) in
       whole first ∙ sym h.rest ∙ step_last read fuel (sheet_views sheets) at (firsts f.runs.items) lt now ∙ ap (λ (l : List (Sheet ℕ)). Ok l) pushed
 
   pub goes_on : (first fuel less before at : ℕ) (seen next_seen : List ℕ) (sheets new : List ListSheet) (s : ListSheet) (f : ListFront) → Reads first fuel before at seen sheets → 0 < fuel
@@ -84,17 +82,17 @@ module _ (ram : Ram) (order folios : ℕ) (old : List ℕ) where
   goes_on first fuel less before at seen next_seen sheets new s f h lt down e same runs more note push =
       let now = as_read first fuel before at seen sheets (Some (front_view f)) h e in
       let pushed : sheet_views new ≡ sheet_views sheets ++ (record { at = at; items = firsts f.runs.items }) ∷ [] =
-          views_push sheets new s push ∙ ap (λ (p : ℕ). sheet_views sheets ++ (record { at = p; items = firsts s.runs.items }) ∷ []) same
-          ∙ ap (λ (l : List Pfn). sheet_views sheets ++ (record { at = at; items = firsts l }) ∷ []) runs in
+      views_push sheets new s push ∙ ap (λ (p : ℕ). sheet_views sheets ++ (record { at = p; items = firsts s.runs.items }) ∷ []) same
+      ∙ ap (λ (l : List Pfn). sheet_views sheets ++ (record { at = at; items = firsts l }) ∷ []) runs in
       record {
         rest = ap (λ (n : ℕ). chain_from read n (sheet_views new) f.next) down
             ∙ ap (λ (l : List (Sheet ℕ)). chain_from read (fuel - 1) l f.next) pushed
             ∙ sym (step_more read fuel (sheet_views sheets) at f.next (firsts f.runs.items) lt (ne_eqb f.next 0 more) now) ∙ h.rest;
         runs = ap (λ (n : ℕ). n + length f.runs.items) h.runs
             ∙ sym (ap (λ (l : List (Sheet ℕ)). length (items_of l)) pushed
-              ∙ ap length (flat_map-append (λ (x : Sheet ℕ). x.items) (sheet_views sheets) ((record { at = at; items = firsts f.runs.items }) ∷ []))
-              ∙ length-append (items_of (sheet_views sheets)) (firsts f.runs.items ++ [])
-              ∙ ap (λ (l : List ℕ). length (items_of (sheet_views sheets)) + length l) (append-nil (firsts f.runs.items))
-              ∙ ap (λ (n : ℕ). length (items_of (sheet_views sheets)) + n) (length-map f.runs.items (λ (p : Pfn). p.0)));
+            ∙ ap length (flat_map-append (λ (x : Sheet ℕ). x.items) (sheet_views sheets) ((record { at = at; items = firsts f.runs.items }) ∷ []))
+            ∙ length-append (items_of (sheet_views sheets)) (firsts f.runs.items ++ [])
+            ∙ ap (λ (l : List ℕ). length (items_of (sheet_views sheets)) + length l) (append-nil (firsts f.runs.items))
+            ∙ ap (λ (n : ℕ). length (items_of (sheet_views sheets)) + n) (length-map f.runs.items (λ (p : Pfn). p.0)));
         noted = noted_push at seen next_seen sheets new s h.noted same note push;
       }

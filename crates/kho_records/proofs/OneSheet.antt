@@ -1,17 +1,17 @@
 -- In version 1 a session frame and a file frame are the only ones of their chains, and are as the program reads them.
-use Rattle.std.proofs.Common.{◌≡◌, ℕ, zero, suc, ◌+◌, ◌-◌, ◌<◌, ◌≤◌, eqb, Bool, true, false, cond, List, [], ◌∷◌, ◌++◌, length, take, drop, map, Option, Some, None, Result, Ok, Err, refl, sym, ap, subst, ◌∙◌, arith}
-use Rattle.std.specs.Prelude.{not, ◌&&◌, ◌||◌, ◌==◌, nat_lt, nat_le, nat_eq}
-use Rattle.std.specs.List.{list_all, list_any}
+use Rattle.std.proofs.Common.{◌≡◌, ℕ, zero, suc, ◌+◌, Bool, true, false, cond, List, [], ◌∷◌, length, take, drop, Option, Some, None, Result, Ok, Err, refl, sym, ap, ◌∙◌, arith}
+use Rattle.std.specs.Prelude.{◌&&◌, ◌||◌, ◌==◌, nat_le}
+use Rattle.std.specs.List.{list_all}
 use Rattle.std.proofs.lemmas.Bool.{leb-true, le-leb, eqb-true}
 use Rattle.std.proofs.lemmas.Bool.Decides.{nat_tests}
 use Rattle.ho_base.specs.Bytes.{u64_at}
-use Rattle.ho_base.specs.declared.limits.TheConstants.{OUT_SLOTS, SESSION_FILES, FILES}
+use Rattle.ho_base.specs.declared.limits.TheConstants.{OUT_SLOTS}
 use Rattle.kho_records.specs.Ram.{Ram, is_frame}
-use Rattle.kho_records.specs.Sheets.{Sheet, SessionSlot, FileSlot}
-use Rattle.kho_records.specs.Rules.{version_1, SLOTS, all_rise, bytes_before, is_session_slot, is_file_slot, is_session_sheet, is_file_sheet}
-use Rattle.kho_records.specs.Reading.{Front, Layout, also, are_zero, front_at, items_at, go_on, chain_from, chain_at, sheet_at, session_slot_at, file_slot_at, session_layout, file_layout}
-use Rattle.kho_records.specs.Slots.{kept_if, session_kept, file_kept}
-use Rattle.kho_records.specs.Fronts.{has_head, names_rise, tokens_rise, session_front_at, file_front_at}
+use Rattle.kho_records.specs.Sheets.{Sheet, SessionSlot}
+use Rattle.kho_records.specs.Rules.{version_1, SLOTS, is_session_slot, is_session_sheet}
+use Rattle.kho_records.specs.Reading.{Front, Layout, also, are_zero, front_at, items_at, go_on, chain_from, chain_at, sheet_at, session_slot_at, session_layout}
+use Rattle.kho_records.specs.Slots.{kept_if, session_kept}
+use Rattle.kho_records.specs.Fronts.{has_head, names_rise, session_front_at}
 
 -- a frame that is alone in its chain
 abbrev pub alone : {E : Type 0} → Option (List E) → Option (Front E)
@@ -36,6 +36,7 @@ module _ {E : Type 0} where
       of_option : (n : ℕ) (p : Option (List E)) → go_on [] at (chain_from (sheet_at ram l test seen) n) (alone p) ≡ one_sheet at p
       of_option n None = refl
       of_option n (Some items) = refl
+
       at_count : (n : ℕ) → (n ≡ 0 → o ≡ None) → chain_from (sheet_at ram l test seen) n [] at ≡ one_sheet at o
       at_count zero h = sym (ap (λ (p : Option (List E)). one_sheet at p) (h refl))
       at_count (suc n) h = ap (λ (p : Option (Front E)). go_on [] at (chain_from (sheet_at ram l test seen) n) p) e ∙ of_option n o
@@ -53,6 +54,7 @@ module _ {E : Type 0} where
       both x xs true true = refl
       both x xs true false = refl
       both x xs false c = refl
+
       first : (o : Option E) (p : Option (List E))
           → also (kept_if test o) (λ x. also (kept_if (list_all test) p) (λ xs. Some (x ∷ xs))) ≡ kept_if (list_all test) (also o (λ x. also p (λ xs. Some (x ∷ xs))))
       first None p = refl
@@ -71,6 +73,7 @@ module _ {E : Type 0} where
       at_rest : (x : E) (o : Option (List E)) → ((ys : List E) → o ≡ Some ys → length ys ≡ k) → also o (λ ys. Some (x ∷ ys)) ≡ Some xs → length xs ≡ suc k
       at_rest x None h e = absurd cc
       at_rest x (Some ys) h e = let s : x ∷ ys ≡ xs = cc in ap length (sym s) ∙ ap suc (h ys refl)
+
       at_first : (o : Option E) → ((ys : List E) → items_at size item k (drop size bytes) ≡ Some ys → length ys ≡ k)
           → also o (λ x. also (items_at size item k (drop size bytes)) (λ ys. Some (x ∷ ys))) ≡ Some xs → length xs ≡ suc k
       at_first None h e = absurd cc
@@ -99,6 +102,7 @@ session_tests true zeros few_31 few_16 each rise true f slots h e = at_zeros zer
   where
     no : false ≡ true → ⊥
     no x = cc
+
     at_zeros : (zeros few_31 few_16 each rise : Bool) → (few_16 ≡ true → few_31 ≡ true)
         → cond (few_31 && zeros) (cond ((few_31 && true) && each && few_16 && rise) f None) None ≡ alone (cond (zeros && few_16) (kept_if (λ x. rise) (cond each (Some slots) None)) None)
     at_zeros false true few_16 each rise h = refl
@@ -126,15 +130,15 @@ zero_plus n = omega arith
 
 session_steps : (ram : Ram) (at : ℕ) → sheet_at ram session_layout (is_session_sheet version_1) [] [] at
     ≡ cond (is_frame ram.count at && true)
-      (also (cond (nat_le (u64_at (ram.page at) 8) SLOTS && are_zero (take 112 (drop 16 (ram.page at))))
-        (also (items_at 128 session_slot_at (u64_at (ram.page at) 8) (drop 128 (ram.page at))) (λ items. Some (record { next = u64_at (ram.page at) 0; items = items }))) None)
-        (λ f. cond (session_test (length f.items) (0 + length f.items) f.items f.next) (Some f) None)) None
+    (also (cond (nat_le (u64_at (ram.page at) 8) SLOTS && are_zero (take 112 (drop 16 (ram.page at))))
+    (also (items_at 128 session_slot_at (u64_at (ram.page at) 8) (drop 128 (ram.page at))) (λ items. Some (record { next = u64_at (ram.page at) 0; items = items }))) None)
+    (λ f. cond (session_test (length f.items) (0 + length f.items) f.items f.next) (Some f) None)) None
 unfolding sheet_at front_at
 session_steps ram at = refl
 
 session_reads : (ram : Ram) (at : ℕ) → session_front_at ram at
     ≡ cond (is_frame ram.count at && has_head (ram.page at) && nat_le (u64_at (ram.page at) 8) OUT_SLOTS)
-      (kept_if names_rise (items_at 128 (λ b. kept_if (is_session_slot version_1) (session_slot_at b)) (u64_at (ram.page at) 8) (drop 128 (ram.page at)))) None
+    (kept_if names_rise (items_at 128 (λ b. kept_if (is_session_slot version_1) (session_slot_at b)) (u64_at (ram.page at) 8) (drop 128 (ram.page at)))) None
 unfolding session_front_at session_kept
 session_reads ram at = refl
 

@@ -1,5 +1,5 @@
 -- The flags of the record frames that were read.
-use Rattle.std.proofs.Common.{◌≡◌, ◌≢◌, ℕ, ◌<◌, eqb, Bool, true, false, List, [], ◌∷◌, ◌++◌, length, get_or, set, map, refl, sym, ap, subst, ◌∙◌, arith, ⊎_elim}
+use Rattle.std.proofs.Common.{◌≡◌, ◌≢◌, ℕ, ◌<◌, eqb, Bool, true, false, List, [], ◌∷◌, ◌++◌, length, get_or, set, refl, sym, ap, subst, ◌∙◌, ⊎_elim}
 use Rattle.std.specs.Prelude.{◌||◌, nat_eq}
 use Rattle.std.specs.List.{list_any}
 use Rattle.std.proofs.lemmas.List.{map-append, length-set, get_or-set_same, get_or-set_other}
@@ -26,13 +26,13 @@ flags_push flags numbers new p h lt push q below =
     let within : q < length flags = subst (λ (n : ℕ). q < n) (length-set flags p true) below in
     let before = list_any (nat_eq q) (firsts numbers) in
     let all : list_any (nat_eq q) (firsts new) ≡ (before || (eqb q p || false)) =
-        ap (λ (l : List Pfn). list_any (nat_eq q) (firsts l)) push
-        ∙ ap (list_any (nat_eq q)) (map-append (λ (r : Pfn). r.0) numbers ((record { 0 = p }) ∷ []))
-        ∙ list_any-append (nat_eq q) (firsts numbers) (p ∷ []) in
+    ap (λ (l : List Pfn). list_any (nat_eq q) (firsts l)) push
+    ∙ ap (list_any (nat_eq q)) (map-append (λ (r : Pfn). r.0) numbers ((record { 0 = p }) ∷ []))
+    ∙ list_any-append (nat_eq q) (firsts numbers) (p ∷ []) in
     ⊎_elim (λ (y : (eqb q p ≡ true) × (q ≡ p)).
-      ap (λ (n : ℕ). get_or (set flags p true) n false) y.1 ∙ get_or-set_same flags p true false lt
-      ∙ sym (all ∙ ap (λ (b : Bool). before || (b || false)) y.0 ∙ or_true before))
+    ap (λ (n : ℕ). get_or (set flags p true) n false) y.1 ∙ get_or-set_same flags p true false lt
+    ∙ sym (all ∙ ap (λ (b : Bool). before || (b || false)) y.0 ∙ or_true before))
     (λ (n : (eqb q p ≡ false) × (q ≢ p)).
-      get_or-set_other flags p q true false n.1 ∙ h q within
-      ∙ sym (all ∙ ap (λ (b : Bool). before || (b || false)) n.0 ∙ or_false before))
+    get_or-set_other flags p q true false n.1 ∙ h q within
+    ∙ sym (all ∙ ap (λ (b : Bool). before || (b || false)) n.0 ∙ or_false before))
     (eqb_tells q p)

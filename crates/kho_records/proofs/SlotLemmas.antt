@@ -1,5 +1,5 @@
 -- Slots as the program reads them.
-use Rattle.std.proofs.Common.{◌≡◌, ℕ, zero, suc, ◌+◌, ◌<◌, ◌≤◌, eqb, Bool, true, false, cond, List, [], ◌∷◌, ◌++◌, length, take, drop, get_or, Option, Some, None, refl, sym, ap, ◌∙◌, arith, append_assoc}
+use Rattle.std.proofs.Common.{◌≡◌, ℕ, ◌+◌, ◌<◌, ◌≤◌, Bool, true, false, cond, List, [], ◌∷◌, ◌++◌, length, take, drop, get_or, Option, Some, None, refl, sym, ap, ◌∙◌, arith, append_assoc}
 use Rattle.std.specs.Prelude.{◌&&◌, nat_le}
 use Rattle.std.proofs.lemmas.List.{length-take-le, take_more, drop_more}
 use Rattle.std.proofs.lemmas.Bool.{ne_eqb, le-leb, and_from}
@@ -125,9 +125,9 @@ pub file_is : (bytes : List ℕ) (kind : Kind) (z : Bool) (f : FileSlot) → kin
     → file_kept bytes ≡ kept_if is_file_slot (cond z (Some f) None)
 file_is bytes kind z f ek ez ef =
     file_kept_steps bytes ∙ ap (kept_if is_file_slot) (file_steps bytes
-      ∙ ap (λ (o : Option Kind). also o (λ k. cond (are_zero (drop 64 bytes)) (Some (file_said bytes k)) None)) ek
-      ∙ ap (λ (b : Bool). cond b (Some (file_said bytes kind)) None) ez
-      ∙ ap (λ (g : FileSlot). cond z (Some g) None) (sym ef))
+    ∙ ap (λ (o : Option Kind). also o (λ k. cond (are_zero (drop 64 bytes)) (Some (file_said bytes k)) None)) ek
+    ∙ ap (λ (b : Bool). cond b (Some (file_said bytes kind)) None) ez
+    ∙ ap (λ (g : FileSlot). cond z (Some g) None) (sym ef))
 
 abbrev pub file_from : Kind → ℕ → ℕ → ℕ → ℕ → ℕ → ℕ → ℕ → FileSlot
 file_from kind token order size position handle first folios = record {

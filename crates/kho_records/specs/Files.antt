@@ -1,7 +1,7 @@
 -- Files as the program reads them.
-use Rattle.std.specs.Prelude.{◌≡◌, ℕ, List, [], ◌∷◌, map, Result, Ok, Err}
+use Rattle.std.specs.Prelude.{◌≡◌, ℕ, List, map, Result, Ok, Err}
 use Rattle.kho_records.specs.Ram.{Ram}
-use Rattle.kho_records.specs.Sheets.{FileRecord, FileSlot}
+use Rattle.kho_records.specs.Sheets.{FileRecord}
 use Rattle.kho_records.specs.Reading.{file_at, each_item}
 use Rattle.kho_records.specs.Slots.{file_view}
 use Rattle.kho_records.specs.Lists.{sheet_views}

@@ -1,5 +1,5 @@
 -- Session and file frames as the program reads them: in version 1 each is the only one of its chain.
-use Rattle.std.specs.Prelude.{◌≡◌, ℕ, zero, suc, ◌+◌, not, ◌&&◌, ◌==◌, nat_lt, nat_le, nat_eq, Bool, if◌then◌else◌, List, [], ◌∷◌, ◌++◌, length, take, drop, Option, Some, None}
+use Rattle.std.specs.Prelude.{ℕ, ◌+◌, not, ◌&&◌, ◌==◌, nat_lt, nat_le, nat_eq, Bool, if◌then◌else◌, List, take, drop, Option, None}
 use Rattle.std.specs.List.{list_any}
 use Rattle.ho_base.specs.Bytes.{u64_at}
 use Rattle.ho_base.specs.declared.limits.TheConstants.{OUT_SLOTS, SESSION_FILES, FILES}
@@ -23,13 +23,13 @@ tokens_rise slots = all_rise (λ a b. nat_lt a.token b.token) slots
 unfoldable pub session_front_at : Ram → ℕ → Option (List SessionSlot)
 session_front_at ram at =
     if is_frame ram.count at && has_head (ram.page at) && nat_le (u64_at (ram.page at) 8) OUT_SLOTS then
-      kept_if names_rise (items_at 128 session_kept (u64_at (ram.page at) 8) (drop 128 (ram.page at)))
+    kept_if names_rise (items_at 128 session_kept (u64_at (ram.page at) 8) (drop 128 (ram.page at)))
     else None
 
 -- the slots of the file frame of a session with so many files, behind record frames that were read and `before` files
 unfoldable pub file_front_at : Ram → ℕ → ℕ → List ℕ → ℕ → Option (List FileSlot)
 file_front_at ram before files seen at =
     if is_frame ram.count at && not (list_any (nat_eq at) seen) && has_head (ram.page at)
-      && u64_at (ram.page at) 8 == files && nat_le files SESSION_FILES && nat_le (before + files) FILES then
-      kept_if tokens_rise (items_at 128 file_kept files (drop 128 (ram.page at)))
+    && u64_at (ram.page at) 8 == files && nat_le files SESSION_FILES && nat_le (before + files) FILES then
+    kept_if tokens_rise (items_at 128 file_kept files (drop 128 (ram.page at)))
     else None

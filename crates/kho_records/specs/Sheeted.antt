@@ -1,11 +1,11 @@
 -- Frames as contracts see them, and a list frame as the program reads it: only the number of runs before it counts.
-use Rattle.std.specs.Prelude.{◌≡◌, ℕ, zero, suc, ◌+◌, not, ◌&&◌, ◌||◌, ◌==◌, nat_lt, nat_le, nat_eq, Bool, if◌then◌else◌, List, [], ◌∷◌, ◌++◌, length, take, drop, Option, Some, None, slice_index_or}
+use Rattle.std.specs.Prelude.{ℕ, zero, suc, ◌+◌, not, ◌&&◌, ◌||◌, ◌==◌, nat_lt, nat_le, nat_eq, Bool, if◌then◌else◌, List, [], ◌∷◌, length, drop, Option, Some, None, slice_index_or}
 use Rattle.std.specs.List.{list_all, list_any}
 use Rattle.ho_base.specs.Bytes.{u64_at}
 use Rattle.phys_frames.specs.Memory.{Memory}
 use Rattle.kho_records.specs.Ram.{Ram, is_frame}
 use Rattle.kho_records.specs.Rules.{LISTED, is_run}
-use Rattle.kho_records.specs.Reading.{Front, also, front_at, list_layout}
+use Rattle.kho_records.specs.Reading.{Front}
 
 -- the bytes of a frame that is home
 abbrev pub page_bytes : Option (List ℕ) → List ℕ
@@ -41,6 +41,6 @@ front_with next (Some runs) = Some (record { next = next; items = runs })
 unfoldable pub list_front_at : Ram → ℕ → ℕ → ℕ → List ℕ → ℕ → Option (Front ℕ)
 list_front_at ram order folios before seen at =
     if is_frame ram.count at && not (list_any (nat_eq at) seen)
-      && has_count (u64_at (ram.page at) 8) (u64_at (ram.page at) 0) before folios then
-      front_with (u64_at (ram.page at) 0) (runs_kept ram.count order (u64_at (ram.page at) 8) (drop 16 (ram.page at)))
+    && has_count (u64_at (ram.page at) 8) (u64_at (ram.page at) 0) before folios then
+    front_with (u64_at (ram.page at) 0) (runs_kept ram.count order (u64_at (ram.page at) 8) (drop 16 (ram.page at)))
     else None

@@ -1,6 +1,5 @@
 -- What the program reads of slots: a slot that keeps the rules which it keeps by itself.
-use Rattle.std.specs.Prelude.{◌≡◌, ℕ, ◌+◌, ◌&&◌, Bool, if◌then◌else◌, List, [], ◌∷◌, map, length, take, drop, Option, Some, None, Result, Ok, Err}
-use Rattle.std.specs.List.{list_all}
+use Rattle.std.specs.Prelude.{◌≡◌, ℕ, ◌&&◌, Bool, if◌then◌else◌, List, length, drop, Option, Some, None, Result, Ok, Err}
 use Rattle.ho_base.specs.NameRule.{is_name}
 use Rattle.kho_records.specs.Sheets.{SessionSlot, FileSlot}
 use Rattle.kho_records.specs.Rules.{version_1, is_session_slot, is_file_slot}

@@ -37,7 +37,14 @@ pub(crate) fn read_file(
         let lists = Vec::new(alloc);
         return Ok(Ok(FileRead { slot, lists }));
     }
-    match list_chain(alloc, frames, slot.order as u8, slot.folios, seen, slot.first)? {
+    match list_chain(
+        alloc,
+        frames,
+        slot.order as u8,
+        slot.folios,
+        seen,
+        slot.first,
+    )? {
         Ok(lists) => Ok(Ok(FileRead { slot, lists })),
         Err(at) => Ok(Err(at)),
     }

@@ -46,11 +46,20 @@ fn is_run(frames: u32, order: u8, first: u64) -> bool
     ensures small { IsTrue result → first ≤ frames }
 {
     let size = 1u64 << order;
-    0 < first && first % size == 0 && first <= u64::from(frames) && first + size <= u64::from(frames)
+    0 < first
+        && first % size == 0
+        && first <= u64::from(frames)
+        && first + size <= u64::from(frames)
 }
 
 /// So many numbers, where each is that of a run.
-fn runs_in(alloc: Global, bytes: &[u8], count: usize, frames: u32, order: u8) -> Result<Option<Vec<Pfn>>, AllocError>
+fn runs_in(
+    alloc: Global,
+    bytes: &[u8],
+    count: usize,
+    frames: u32,
+    order: u8,
+) -> Result<Option<Vec<Pfn>>, AllocError>
     requires there { 8 * count ≤ length bytes.now }
     requires order { order ≤ MAX_ORDER }
     ensures kept { IfOk result (λ r. Gives (λ v. firsts v.items) r (runs_kept frames order count bytes.now)) }
@@ -74,7 +83,10 @@ fn has_count(count: u64, next: u64, before: u64, folios: u64) -> bool
     ensures exact { result ≡ count_rule count next before folios }
     ensures few { IsTrue result → count ≤ 510 }
 {
-    0 < count && count <= LISTED && (next == 0 || count == LISTED) && (0 < next || before + count == folios)
+    0 < count
+        && count <= LISTED
+        && (next == 0 || count == LISTED)
+        && (0 < next || before + count == folios)
 }
 
 /// A list frame behind record frames that were read and `before` runs; none where it breaks a rule.
@@ -140,7 +152,10 @@ pub(crate) fn list_chain(
         seen.push(at)?;
         before += front.runs.len() as u64;
         let next = front.next;
-        sheets.push(ListSheet { at, runs: front.runs })?;
+        sheets.push(ListSheet {
+            at,
+            runs: front.runs,
+        })?;
         if next == 0 {
             return Ok(Ok(sheets));
         }

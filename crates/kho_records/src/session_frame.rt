@@ -28,7 +28,6 @@ fn has_head(page: &[u8]) -> bool
 }
 
 /// Whether one name stands before another in the order of bytes.
-#[tactic(auto, using(crate::proofs::FrontTests::before_none))]
 fn is_before(one: &[u8], other: &[u8]) -> bool
     ensures { result ≡ bytes_before one.now other.now }
 {
@@ -47,7 +46,8 @@ fn names_rise(slots: &[ReadSession]) -> bool
 {
     match slots {
         [first, rest @ ..] => match rest.first() {
-            Some(second) => is_before(first.name.as_bytes(), second.name.as_bytes()) && names_rise(rest),
+            Some(second) => is_before(first.name.as_bytes(), second.name.as_bytes())
+                && names_rise(rest),
             None => true,
         },
         [] => true,
@@ -55,7 +55,11 @@ fn names_rise(slots: &[ReadSession]) -> bool
 }
 
 /// So many session slots, where each keeps its rules.
-fn session_slots(alloc: Global, bytes: &[u8], count: usize) -> Result<Option<Vec<ReadSession>>, AllocError>
+fn session_slots(
+    alloc: Global,
+    bytes: &[u8],
+    count: usize,
+) -> Result<Option<Vec<ReadSession>>, AllocError>
     requires { 128 * count ≤ length bytes.now }
     ensures { IfOk result (λ r. Gives (λ v. map session_view v.items) r (items_at 128 session_kept count bytes.now)) }
 {
@@ -72,7 +76,11 @@ fn session_slots(alloc: Global, bytes: &[u8], count: usize) -> Result<Option<Vec
 
 /// The slots of the session frame; none where it breaks a rule.
 #[tactic(auto, using(crate::proofs::FrontTests::no_frame, crate::proofs::FrontTests::no_head, crate::proofs::FrontTests::with_count))]
-pub(crate) fn session_front(alloc: Global, frames: &Frames, at: u64) -> Result<Option<Vec<ReadSession>>, AllocError>
+pub(crate) fn session_front(
+    alloc: Global,
+    frames: &Frames,
+    at: u64,
+) -> Result<Option<Vec<ReadSession>>, AllocError>
     requires home { AllHome frames.now }
     ensures { IfOk result (λ r. Gives (λ v. map session_view v.items) r (session_front_at (ram_of frames.now) at)) }
 {
@@ -89,6 +97,10 @@ pub(crate) fn session_front(alloc: Global, frames: &Frames, at: u64) -> Result<O
     }
     match session_slots(alloc, &page[SLOTS_AT..], count as usize)? {
         None => Ok(None),
-        Some(slots) => Ok(if names_rise(&slots) { Some(slots) } else { None }),
+        Some(slots) => Ok(if names_rise(&slots) {
+            Some(slots)
+        } else {
+            None
+        }),
     }
 }

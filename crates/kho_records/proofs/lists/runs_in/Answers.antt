@@ -1,4 +1,4 @@
-use Rattle.std.proofs.Common.{◌≡◌, ◌+◌, ◌∷◌, [], ◌++◌, length, sym, ap, ◌∙◌, arith}
+use Rattle.std.proofs.Common.{◌+◌, length, sym, ap, ◌∙◌, arith}
 use Rattle.std.proofs.lemmas.List.{length_push}
 use Rattle.kho_records.proofs.ListFronts.{read_none, read_more, read_all}
 use Rattle.kho_records.proofs.lists.runs_in.Goals as goal
@@ -6,7 +6,7 @@ use Rattle.kho_records.proofs.lists.runs_in.Goals as goal
 pub returns-then-not-is_run-clause-kept : goal.returns-then-not-is_run-clause-kept
 returns-then-not-is_run-clause-kept c =
     read_none c.args.frames c.args.order c.args.count c.loop-i.i c.get_u64-first.result c.args.bytes.now c.loop-i.runs.items c.loop-i.invariant.read c.loop-i-test.true
-      c.get_u64-first.ensures (sym c.is_run.ensures.exact ∙ c.if-not-is_run.true)
+    c.get_u64-first.ensures (sym c.is_run.ensures.exact ∙ c.if-not-is_run.true)
 
 pub loop-i-preserved : goal.loop-i-preserved
 loop-i-preserved c = record {

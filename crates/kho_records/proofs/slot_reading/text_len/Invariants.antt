@@ -1,4 +1,4 @@
-use Rattle.std.proofs.Common.{◌≡◌, ◌++◌, ◌≤◌, length, take, drop}
+use Rattle.std.proofs.Common.{◌≡◌, ◌++◌, take, drop}
 use Rattle.kho_records.specs.Reading.{text_of}
 use Rattle.kho_records.proofs.slot_reading.text_len.Given as goal
 
