@@ -18,7 +18,5 @@ pub mod ListFronts
 pub mod ChainSteps
 pub mod ListLoop
 pub mod Items
-pub mod EachItem
 pub mod OneSheet
-pub mod FileSheet
 pub mod FrontTests

@@ -1,5 +1,5 @@
--- In version 1 a session frame and a file frame are the only ones of their chains, and are as the program reads them.
-use Rattle.std.proofs.Common.{◌≡◌, ℕ, zero, suc, ◌+◌, Bool, true, false, cond, List, [], ◌∷◌, length, take, drop, Option, Some, None, Result, Ok, Err, refl, sym, ap, ◌∙◌, arith}
+-- In version 1 a session frame is the only one of its chain, and is as the program reads it.
+use Rattle.std.proofs.Common.{◌≡◌, ℕ, zero, suc, ◌+◌, Bool, true, false, cond, List, [], ◌∷◌, length, take, drop, Option, Some, None, refl, sym, ap, ◌∙◌, arith}
 use Rattle.std.specs.Prelude.{◌&&◌, ◌||◌, ◌==◌, nat_le}
 use Rattle.std.specs.List.{list_all}
 use Rattle.std.proofs.lemmas.Bool.{leb-true, le-leb, eqb-true}
@@ -11,16 +11,12 @@ use Rattle.kho_records.specs.Sheets.{Sheet, SessionSlot}
 use Rattle.kho_records.specs.Rules.{version_1, SLOTS, is_session_slot, is_session_sheet}
 use Rattle.kho_records.specs.Reading.{Front, Layout, also, are_zero, front_at, items_at, go_on, chain_from, chain_at, sheet_at, session_slot_at, session_layout}
 use Rattle.kho_records.specs.Slots.{kept_if, session_kept}
-use Rattle.kho_records.specs.Fronts.{has_head, names_rise, session_front_at}
+use Rattle.kho_records.specs.Fronts.{has_head, names_rise, session_front_at, one_sheet}
 
 -- a frame that is alone in its chain
 abbrev pub alone : {E : Type 0} → Option (List E) → Option (Front E)
 alone None = None
 alone (Some items) = Some (record { next = 0; items = items })
-
-abbrev pub one_sheet : {E : Type 0} → ℕ → Option (List E) → Result (List (Sheet E)) ℕ
-one_sheet at None = Err at
-one_sheet at (Some items) = Ok ((record { at = at; items = items }) ∷ [])
 
 module _ {E : Type 0} where
   whole : (ram : Ram) (l : Layout E) (test : List (Sheet E) → List E → ℕ → Bool) (seen : List ℕ) (at : ℕ)

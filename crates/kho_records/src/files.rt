@@ -14,14 +14,20 @@ use std::alloc::{AllocError, Global};
 
 /// A file with its list frames.
 #[derive(Debug, Drop)]
-pub(crate) struct FileRead {
-    pub(crate) slot: ReadFile,
-    pub(crate) lists: Vec<ListSheet>,
+pub struct FileRead {
+    /// What its slot says.
+    pub slot: ReadFile,
+    /// Its list frames in the order of their chain; none where it has no runs.
+    pub lists: Vec<ListSheet>,
 }
 
-/// The list frames of a file, or the first number that breaks a rule. The frames that are read are noted.
+/// Reads the list frames of a file, and notes each in `seen`.
+///
+/// `Ok(Err(at))`: `at` is the first number along the chain that breaks a rule, as in [`list_chain`]. `Err`: out of
+/// memory. A file without runs has no list frame, and none is read. The slot's order is in range; its other rules are
+/// those of [`crate::reading::file_slot`].
 #[tactic(auto, unfolding(crate::specs::Reading::file_at))]
-pub(crate) fn read_file(
+pub fn read_file(
     alloc: Global,
     frames: &Frames,
     seen: &mut Seen,

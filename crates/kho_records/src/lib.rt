@@ -7,6 +7,7 @@ pub mod laws;
 mod lists;
 mod pages;
 mod place;
+pub mod reading;
 mod seen;
 mod session_frame;
 mod slot_reading;

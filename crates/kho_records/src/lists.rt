@@ -19,7 +19,7 @@ use phys_frames::Frames;
 use std::alloc::{AllocError, Global};
 
 /// How many numbers a list frame has room for.
-pub(crate) const LISTED: u64 = 510;
+const LISTED: u64 = 510;
 
 /// What a list frame says.
 #[derive(Debug, Drop)]
@@ -32,11 +32,11 @@ pub(crate) struct ListFront {
 
 /// A list frame with its runs.
 #[derive(Debug, Drop)]
-pub(crate) struct ListSheet {
+pub struct ListSheet {
     /// The frame's number.
-    pub(crate) at: u64,
-    /// The first frames of the runs.
-    pub(crate) runs: Vec<Pfn>,
+    pub at: u64,
+    /// The first frames of the runs, from 1 to 510.
+    pub runs: Vec<Pfn>,
 }
 
 /// Whether a run of this order may begin here: it is aligned, doesn't begin at frame 0, and ends within the frames.
@@ -125,9 +125,13 @@ fn list_front(
     }
 }
 
-/// The list frames of a file from a number on, or the first number that breaks a rule. The frames that are read are
-/// noted.
-pub(crate) fn list_chain(
+/// Reads the list frames of a file of `folios` runs of this order, from the frame `first` on, and notes each in `seen`.
+///
+/// `Ok(Err(at))`: `at` is the first number along the chain that breaks a rule. It isn't that of a frame from 1 on, it
+/// was read before, it has no run or more than 510, it has fewer than 510 although a frame follows, the runs up to the
+/// last frame aren't `folios` in all, or a run isn't aligned or isn't within the frames from 1 on. `Err`: out of
+/// memory.
+pub fn list_chain(
     alloc: Global,
     frames: &Frames,
     order: u8,

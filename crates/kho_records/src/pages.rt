@@ -9,16 +9,16 @@ ghost use Rattle.kho_records.specs.Sheeted.{page_of as page_rule};
 use ho_base::numbers::Pfn;
 use phys_frames::Frames;
 
-/// Whether a number is that of a frame from 1 on.
-pub(crate) fn is_frame_number(frames: &Frames, p: u64) -> bool
+/// Whether a number, as records have them, is that of a frame from 1 on: frame 0 holds no records.
+pub fn is_frame_number(frames: &Frames, p: u64) -> bool
     ensures exact { result ≡ is_frame (length frames.now.pages) p }
     ensures small { IsTrue result → p < 2 ^ 32 }
 {
     0 < p && p < u64::from(frames.count())
 }
 
-/// The bytes of a frame from 1 on.
-pub(crate) fn page_of(frames: &Frames, p: u64) -> &[u8]
+/// The 4096 bytes of a frame from 1 on; all frames are home.
+pub fn page_of(frames: &Frames, p: u64) -> &[u8]
     requires home { AllHome frames.now }
     requires frame { IsTrue (is_frame (length frames.now.pages) p) }
     requires small { p < 2 ^ 32 }

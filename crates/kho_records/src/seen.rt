@@ -11,7 +11,7 @@ use std::marker::Model;
 
 /// The record frames that were read, in reading order, with a flag for each frame of the machine.
 #[derive(Debug, Drop)]
-pub(crate) struct Seen {
+pub struct Seen {
     flags: Vec<bool>,
     numbers: Vec<Pfn>,
 }
@@ -27,8 +27,8 @@ impl Model for Seen {
 }
 
 impl Seen {
-    /// None of so many frames was read.
-    pub(crate) fn none(alloc: Global, count: u32) -> Result<Seen, AllocError>
+    /// None of `count` frames was read. `Err`: out of memory.
+    pub fn none(alloc: Global, count: u32) -> Result<Seen, AllocError>
         requires { count ≤ MAX_FRAMES }
         ensures { IfOk result (λ s. s ≡ record { count = count; numbers = [] }) }
     {
@@ -39,16 +39,16 @@ impl Seen {
         })
     }
 
-    /// Whether this frame was read.
-    pub(crate) fn has(&self, p: u64) -> bool
+    /// Whether frame `p` was read; `p` is below the number of frames.
+    pub fn has(&self, p: u64) -> bool
         requires { p < self.now.count }
         ensures { result ≡ list_any (nat_eq p) self.now.numbers }
     {
         self.flags[p as usize]
     }
 
-    /// Notes that this frame was read.
-    pub(crate) fn push(&mut self, p: u64) -> Result<(), AllocError>
+    /// Notes that frame `p` was read; `p` is below the number of frames. `Err`: out of memory.
+    pub fn push(&mut self, p: u64) -> Result<(), AllocError>
         requires { p < self.old.count }
         ensures count { self.new.count ≡ self.old.count }
         ensures numbers { IfOk result (λ _. self.new.numbers ≡ self.old.numbers ++ p ∷ []) }
@@ -59,7 +59,7 @@ impl Seen {
     }
 
     /// The numbers of the frames that were read, in reading order.
-    pub(crate) fn into_numbers(self) -> Vec<Pfn>
+    pub fn into_numbers(self) -> Vec<Pfn>
         ensures { firsts result.items ≡ self.numbers }
     {
         let Seen { numbers, .. } = self;

@@ -74,9 +74,13 @@ fn session_slots(
     Ok(Some(slots))
 }
 
-/// The slots of the session frame; none where it breaks a rule.
+/// Reads the slots of the session frame, in their order.
+///
+/// `Ok(None)`: the frame breaks a rule. Its number isn't that of a frame from 1 on, another frame follows, bytes without
+/// a meaning aren't zero, it has more slots than there may be sessions, a slot breaks a rule as in
+/// [`crate::reading::session_slot`], or the names don't rise. `Err`: out of memory.
 #[tactic(auto, using(crate::proofs::FrontTests::no_frame, crate::proofs::FrontTests::no_head, crate::proofs::FrontTests::with_count))]
-pub(crate) fn session_front(
+pub fn session_front(
     alloc: Global,
     frames: &Frames,
     at: u64,

@@ -16,23 +16,34 @@ pub(crate) const SLOT_BYTES: usize = 128;
 
 /// What a slot of a session frame says.
 #[derive(Debug, Drop)]
-pub(crate) struct ReadSession {
-    pub(crate) name: Name,
-    pub(crate) files: u64,
-    pub(crate) first: u64,
+pub struct ReadSession {
+    /// The session's name.
+    pub name: Name,
+    /// How many files it has.
+    pub files: u64,
+    /// The number of its file frame, or 0 where it has no files.
+    pub first: u64,
 }
 
 /// What a slot of a file frame says.
 #[derive(Debug, Drop)]
-pub(crate) struct ReadFile {
-    pub(crate) token: u64,
-    pub(crate) kind: Kind,
-    pub(crate) order: u64,
-    pub(crate) size: u64,
-    pub(crate) position: u64,
-    pub(crate) handle: u64,
-    pub(crate) first: u64,
-    pub(crate) folios: u64,
+pub struct ReadFile {
+    /// The file's token.
+    pub token: u64,
+    /// Which sort of file it is.
+    pub kind: Kind,
+    /// The order of its runs.
+    pub order: u64,
+    /// Its size in bytes.
+    pub size: u64,
+    /// Its position in bytes.
+    pub position: u64,
+    /// Its handle; 0 for a memfd.
+    pub handle: u64,
+    /// The number of its first list frame, or 0 where it has no runs.
+    pub first: u64,
+    /// How many runs it has.
+    pub folios: u64,
 }
 
 /// Whether all bytes are zero.
@@ -76,8 +87,12 @@ fn name_at(bytes: &[u8]) -> Option<Name>
     Name::checked(&bytes[..len])
 }
 
-/// A slot of a session frame; none where it breaks a rule by itself.
-pub(crate) fn session_slot(bytes: &[u8]) -> Option<ReadSession>
+/// Reads a slot of a session frame, of 128 bytes.
+///
+/// None exactly where it breaks a rule by itself: the name's bytes aren't a name with zeros behind it, bytes without a
+/// meaning aren't zero, it has more files than a session may have, or it has a first file frame without files or files
+/// without one.
+pub fn session_slot(bytes: &[u8]) -> Option<ReadSession>
     requires { length bytes.now ≡ 128 }
     ensures { Gives session_view result (session_kept bytes.now) }
 {
@@ -143,9 +158,13 @@ fn is_kept(file: &ReadFile) -> bool
         && has_first(file.folios, file.first)
 }
 
-/// A slot of a file frame; none where it breaks a rule by itself.
+/// Reads a slot of a file frame, of 128 bytes.
+///
+/// None exactly where it breaks a rule by itself: its kind has no such number, bytes without a meaning aren't zero,
+/// order, size or position is out of range, its runs aren't as many as hold its size, order, size and handle aren't as
+/// its kind wants them, or it has a first list frame without runs or runs without one.
 #[tactic(auto, unfolding(crate::specs::Slots::file_kept, crate::specs::Reading::file_slot_at))]
-pub(crate) fn file_slot(bytes: &[u8]) -> Option<ReadFile>
+pub fn file_slot(bytes: &[u8]) -> Option<ReadFile>
     requires { length bytes.now ≡ 128 }
     ensures { Gives file_view result (file_kept bytes.now) }
 {
