@@ -12,3 +12,11 @@ mod FoundChains
 mod FoundTurns
 mod FoundRecords
 mod FoundKept
+pub mod SeenFlags
+pub mod SlotLemmas
+pub mod ListFronts
+pub mod ChainSteps
+pub mod ListLoop
+pub mod Items
+pub mod OneSheet
+pub mod FrontTests

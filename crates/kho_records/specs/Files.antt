@@ -1,0 +1,25 @@
+-- Files as the program reads them.
+use Rattle.std.specs.Prelude.{◌≡◌, ℕ, List, Result, Ok, Err}
+use Rattle.kho_records.specs.Ram.{Ram}
+use Rattle.kho_records.specs.Sheets.{FileRecord}
+use Rattle.kho_records.specs.Reading.{file_at}
+use Rattle.kho_records.specs.Slots.{file_view}
+use Rattle.kho_records.specs.Lists.{sheet_views}
+use Rattle.kho_records.specs.declared.slot_reading.ReadFile.{ReadFile}
+use Rattle.kho_records.specs.declared.files.FileRead.{FileRead}
+
+abbrev pub file_record : FileRead → FileRecord
+file_record f = record {
+  token = f.slot.token;
+  kind = f.slot.kind;
+  order = f.slot.order;
+  size = f.slot.size;
+  position = f.slot.position;
+  handle = f.slot.handle;
+  lists = sheet_views f.lists.items;
+}
+
+-- a file was read after some record frames, or the first number that breaks a rule
+abbrev pub TellsFile : Ram → List ℕ → List ℕ → ReadFile → Result FileRead ℕ → Type 0
+TellsFile ram old new slot (Ok f) = file_at ram old (file_view slot) ≡ Ok (file_record f, new)
+TellsFile ram old new slot (Err p) = file_at ram old (file_view slot) ≡ Err p

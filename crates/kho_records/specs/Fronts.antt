@@ -1,0 +1,28 @@
+-- Session frames as the program reads them: in version 1 each is the only one of its chain.
+use Rattle.std.specs.Prelude.{ℕ, ◌&&◌, ◌==◌, nat_le, Bool, if◌then◌else◌, List, [], ◌∷◌, take, drop, Option, Some, None, Result, Ok, Err}
+use Rattle.ho_base.specs.Bytes.{u64_at}
+use Rattle.ho_base.specs.declared.limits.TheConstants.{OUT_SLOTS}
+use Rattle.kho_records.specs.Ram.{Ram, is_frame}
+use Rattle.kho_records.specs.Sheets.{Sheet, SessionSlot}
+use Rattle.kho_records.specs.Rules.{all_rise, bytes_before}
+use Rattle.kho_records.specs.Reading.{are_zero, items_at}
+use Rattle.kho_records.specs.Slots.{kept_if, session_kept}
+
+-- the head of a frame of slots: no frame follows, and what has no meaning is zero
+abbrev pub has_head : List ℕ → Bool
+has_head page = u64_at page 0 == 0 && are_zero (take 112 (drop 16 page))
+
+abbrev pub names_rise : List SessionSlot → Bool
+names_rise slots = all_rise (λ a b. bytes_before a.name b.name) slots
+
+-- the slots of the session frame
+unfoldable pub session_front_at : Ram → ℕ → Option (List SessionSlot)
+session_front_at ram at =
+    if is_frame ram.count at && has_head (ram.page at) && nat_le (u64_at (ram.page at) 8) OUT_SLOTS then
+    kept_if names_rise (items_at 128 session_kept (u64_at (ram.page at) 8) (drop 128 (ram.page at)))
+    else None
+
+-- a chain of one frame with these items, or this frame as the first that breaks a rule
+abbrev pub one_sheet : {E : Type 0} → ℕ → Option (List E) → Result (List (Sheet E)) ℕ
+one_sheet at None = Err at
+one_sheet at (Some items) = Ok ((record { at = at; items = items }) ∷ [])
