@@ -1,0 +1,3 @@
+//! Whole commands: each does a whole sequence of its acts, or stops in the middle.
+
+pub mod create;

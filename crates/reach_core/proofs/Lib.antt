@@ -1,0 +1,11 @@
+pub mod Earlier
+pub mod GivenUp
+pub mod Hands
+pub mod Kernels
+pub mod LabelLists
+pub mod LabelMaps
+pub mod Objects
+pub mod PlainEnds
+pub mod PlainShows
+pub mod PlainSteps
+pub mod Standing
