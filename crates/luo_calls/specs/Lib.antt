@@ -1,7 +1,5 @@
-pub mod CloseLoop
-pub mod Closes
-pub mod Commands
-pub mod Outcomes
+pub mod Doing
+pub mod Opened
 pub mod Replies
-pub mod Turns
-pub mod Writes
+pub mod Stuck
+pub mod Takes

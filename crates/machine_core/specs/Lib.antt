@@ -1,5 +1,4 @@
-pub mod Kernels
-pub mod LabelsShown
-pub mod Machine
-pub mod Plain
-pub mod Starts
+pub mod Agents
+pub mod Commands
+pub mod Objects
+pub mod Turns
