@@ -12,11 +12,3 @@ mod FoundChains
 mod FoundTurns
 mod FoundRecords
 mod FoundKept
-pub mod SeenFlags
-pub mod SlotLemmas
-pub mod ListFronts
-pub mod ChainSteps
-pub mod ListLoop
-pub mod Items
-pub mod OneSheet
-pub mod FrontTests

@@ -1,5 +1,5 @@
 -- What the definitions of records promise together.
-use Rattle.std.specs.Prelude.{◌≡◌, ℕ, ◌≤◌, List, [], length, IsTrue, Ok, ◌⊎◌, ◌<◌, get_or}
+use Rattle.std.specs.Prelude.{◌≡◌, ℕ, ◌≤◌, List, length, IsTrue, Ok, ◌⊎◌, ◌<◌, get_or}
 use Rattle.ho_base.specs.declared.limits.TheConstants.{MAX_FRAMES, PAGE_BYTES}
 use Rattle.fdt_blob.specs.declared.tree.FdtPlace.{FdtPlace}
 use Rattle.fdt_blob.specs.Trees.{Tree}
@@ -9,9 +9,7 @@ use Rattle.ho_world.specs.Frozen.{Frozen}
 use Rattle.kho_records.specs.Ram.{Ram, is_frame}
 use Rattle.kho_records.specs.Kept.{Kept}
 use Rattle.kho_records.specs.Carries.{Carries, Keep}
-use Rattle.kho_records.specs.Rules.{version_1, is_session_sheet}
-use Rattle.kho_records.specs.Reading.{kept_at, chain_at, session_layout, BreakAt}
-use Rattle.kho_records.specs.Fronts.{session_front_at, one_sheet}
+use Rattle.kho_records.specs.Reading.{kept_at, BreakAt}
 
 -- what fdt_blob promises: bytes spell one tree at most, and bytes that break a rule spell none and break one first
 pub record OneTree : Type 0 where
@@ -55,8 +53,3 @@ abbrev pub StateOrPlace : Type 0
 StateOrPlace =
     (ram : Ram) (entry : ℕ) → Holds ram → TreeOrPlace (ram.page entry)
     → ((f : Frozen) × Carries ram entry f) ⊎ ((p : ImagePlace) × BreakAt ram entry p)
-
--- In version 1 the chain of session frames is its first frame, or this frame breaks a rule.
-abbrev pub OneSessionFrame : Type 0
-OneSessionFrame =
-    (ram : Ram) (at : ℕ) → chain_at ram session_layout (is_session_sheet version_1) [] at ≡ one_sheet at (session_front_at ram at)

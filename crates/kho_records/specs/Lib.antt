@@ -8,9 +8,3 @@ pub mod Carries
 pub mod Reading
 pub mod State
 pub mod Laws
-pub mod Seen
-pub mod Sheeted
-pub mod Slots
-pub mod Lists
-pub mod Fronts
-pub mod Files

@@ -1,6 +1,6 @@
 //! Laws of what frames carry.
 
-ghost use Rattle.kho_records.specs.Laws.{OneState, NoState, OnePlace, KeptIsRead, ReadIsKept, StateOrPlace, OneSessionFrame};
+ghost use Rattle.kho_records.specs.Laws.{OneState, NoState, OnePlace, KeptIsRead, ReadIsKept, StateOrPlace};
 
 use fdt_blob::laws::law_of_reading;
 
@@ -24,10 +24,4 @@ pub fn law_of_keeping()
 /// blob shows. Nothing is done.
 pub fn law_of_refusing()
     ensures { StateOrPlace }
-{}
-
-/// In version 1 the chain of session frames is one frame, with the slots that `reading::session_front` gives, and where
-/// that gives none this frame breaks a rule. Nothing is done.
-pub fn law_of_session_frames()
-    ensures { OneSessionFrame }
 {}

@@ -2,6 +2,7 @@ pub mod Earlier
 pub mod GivenUp
 pub mod Hands
 pub mod Kernels
+pub mod LabelFiles
 pub mod LabelLists
 pub mod LabelMaps
 pub mod Objects

@@ -1,7 +1,8 @@
 -- What contracts see of an agent's labels.
-use Rattle.std.specs.Prelude.{ℕ, ◌+◌, List}
+use Rattle.std.specs.Prelude.{ℕ, ◌+◌, nat_lt, List, IsTrue}
+use Rattle.std.specs.List.{list_all}
 use Rattle.std.specs.FinMap as finmap
-use Rattle.ho_base.specs.declared.limits.TheConstants.{AGENTS}
+use Rattle.ho_base.specs.declared.limits.TheConstants.{AGENTS, FILES}
 use Rattle.ho_base.specs.declared.numbers.FileNo.{FileNo}
 use Rattle.ho_world.specs.Sequences.{Labels}
 
@@ -20,3 +21,7 @@ agent_count = 1 + AGENTS
 -- the map that pairs show
 unfoldable pub labels_of : List (List ℕ × FileNo) → Labels
 labels_of pairs = finmap.from_entries pairs
+
+-- each label is of a file number
+abbrev pub AreFiles : List (List ℕ × FileNo) → Type 0
+AreFiles pairs = IsTrue (list_all (λ e. nat_lt e.1.0 FILES) pairs)

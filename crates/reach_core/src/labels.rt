@@ -1,12 +1,12 @@
 //! The labels of one agent, and those of all agents.
 
-ghost use Rattle.std.specs.Prelude.{◌≡◌, ◌+◌, ◌<◌, ◌≤◌, [], IfOk, OnOk, filter, length, map, not, replicate, slice_index_or, slice_set};
+ghost use Rattle.std.specs.Prelude.{◌≡◌, ◌+◌, ◌<◌, ◌≤◌, [], IfOk, IfSome, OnOk, filter, length, map, not, replicate, slice_index_or, slice_set};
 ghost use Rattle.std.specs.FinMap as finmap;
 ghost use Rattle.std.specs.Vec.{vec_len, vec_capacity};
 ghost use Rattle.ho_events.specs.Lists.{same_bytes};
 ghost use Rattle.reach_core.specs.LabelsShown.{agent_count};
 
-use ho_base::limits::AGENTS;
+use ho_base::limits::{AGENTS, FILES};
 use ho_base::name::Name;
 use ho_base::numbers::{AgentNo, FileNo, NoMemory};
 use ho_events::by_name::find;
@@ -17,8 +17,8 @@ use std::mem;
 /// How many lists of labels a kernel has: one for each agent, and agent 0's.
 const LISTS: u32 = 1 + AGENTS;
 
-/// The labels of one agent with their files. Contracts see a map from the bytes of each label to its file, and for how
-/// many more labels there is memory. Each call costs at most one pass over the labels.
+/// The labels of one agent with their files, each of which is a file number. Contracts see a map from the bytes of each
+/// label to its file, and for how many more labels there is memory. Each call costs at most one pass over the labels.
 #[derive(Drop)]
 pub struct Labels {
     bound: Vec<(Name, FileNo)>,
@@ -29,13 +29,15 @@ impl Model for Labels {
     ghost use Rattle.std.specs.FinMap as finmap;
     ghost use Rattle.std.specs.Prelude.{◌-◌};
     ghost use Rattle.std.specs.Vec.{vec_len, vec_capacity};
-    ghost use Rattle.reach_core.specs.LabelsShown.{LabelsValue, labels_of};
+    ghost use Rattle.reach_core.specs.LabelsShown.{LabelsValue, labels_of, AreFiles};
 
     ghost Value = { LabelsValue };
 
     ghost coded = { Prim.hlevel (codes, finmap.code) };
 
     ghost view = { λ l. record { bound = labels_of l.bound.items; room = vec_capacity l.bound - vec_len l.bound } };
+
+    ghost invariant = { λ l. AreFiles l.bound.items };
 }
 
 impl Labels {
@@ -61,9 +63,10 @@ impl Labels {
     }
 
     /// The file to which a label is bound; none exactly where it isn't bound.
-    #[tactic(auto, using(crate::proofs::LabelMaps::file_bound))]
+    #[tactic(auto, using(crate::proofs::LabelMaps::file_bound, crate::proofs::LabelFiles::among_within))]
     pub fn file(&self, label: Name) -> Option<FileNo>
-        ensures { result ≡ finmap.get self.now.bound label }
+        ensures found { result ≡ finmap.get self.now.bound label }
+        ensures within { IfSome result (λ f. f.0 < FILES) }
     {
         find(self.bound.as_slice(), label)
     }
@@ -71,6 +74,7 @@ impl Labels {
     /// Binds a label to a file; a file to which it was bound before loses it. It takes no memory.
     pub fn bind(&mut self, label: Name, file: FileNo)
         requires room { 0 < self.old.room }
+        requires file { file.0 < FILES }
         ensures bound { self.new.bound ≡ finmap.insert self.old.bound label file }
         ensures room { self.old.room ≤ self.new.room + 1 }
     {

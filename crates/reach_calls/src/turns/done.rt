@@ -45,3 +45,24 @@ pub fn end_command<R: Reach>(reach: &mut R, at: &mut At, reply: Reply) -> Result
     });
     Ok(())
 }
+
+/// Ends a command with a reply that lists nothing, and answers the same reply.
+pub fn end_told<R: Reach>(reach: &mut R, at: &mut At, reply: Reply) -> Result<Reply, Stuck>
+    requires ready { IsReady at.old (R.shown reach.old) }
+    requires short { IsShort reply }
+    ensures reply { IfOk result (λ r. r ≡ reply) }
+    ensures goes { OnOk result (Goes (end_with reply ∷ []) at.old at.new (R.shown reach.old) (R.shown reach.new)) }
+    ensures sticks { IfErr result (λ stuck. Sticks at.old stuck (R.shown reach.old) (R.shown reach.new)) }
+    ensures same_at { OnErr result (at.new ≡ at.old) }
+{
+    let told = match &reply {
+        Reply::Ok => Reply::Ok,
+        Reply::BadFd => Reply::BadFd,
+        Reply::NoFrames => Reply::NoFrames,
+        Reply::TooBig => Reply::TooBig,
+        Reply::SizeFrozen => Reply::SizeFrozen,
+        _ => unreachable!(),
+    };
+    end_command(reach, at, reply)?;
+    Ok(told)
+}

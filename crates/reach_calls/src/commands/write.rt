@@ -1,0 +1,87 @@
+//! The command `write`.
+
+ghost use Rattle.std.specs.Prelude.{◌≡◌, ◌+◌, ◌<◌, ◌≤◌, IfOk, IfErr, length};
+ghost use Rattle.ho_base.specs.declared.limits.TheConstants.{PAGE_BYTES};
+ghost use Rattle.phys_frames.specs.Memory.{AreOf};
+ghost use Rattle.reach_core.specs.Agents.{Agent, no_hands};
+ghost use Rattle.reach_core.specs.Commands.{Comes, Halts};
+ghost use Rattle.reach_core.specs.Turns.{IsReady};
+ghost use Rattle.reach_calls.specs.Doing.{SticksAfter};
+
+use crate::stuck::{Stopped, empty_handed, release};
+use crate::turns::done::end_told;
+use crate::turns::write::{Wrote, write_file};
+use ho_base::Items;
+use ho_base::name::Name;
+use ho_events::command::Command;
+use ho_events::reply::Reply;
+use ho_events::slip::At;
+use phys_frames::folio::Folio;
+use reach_core::{Halt, Labels, Reach};
+use std::alloc::Global;
+
+/// What a write that came out so is answered.
+fn reply_of(wrote: Wrote) -> Reply {
+    match wrote {
+        Wrote::Plain(reply) => reply,
+        Wrote::Starved(_, _) => Reply::NoFrames,
+        Wrote::Filled(_, _) => Reply::Ok,
+    }
+}
+
+/// Writes bytes at an offset of the label's file. It takes runs for the holes that the bytes touch, all or none. It
+/// costs the bytes, and what a take of so many runs costs.
+///
+/// # Errors
+///
+/// The halt of a command that stops in the middle, with the folios that it had in hand.
+pub fn write<R: Reach>(
+    alloc: Global,
+    reach: &mut R,
+    labels: &Labels,
+    at: &mut At,
+    label: Name,
+    off: u32,
+    bytes: &Items<u8>,
+) -> Result<Reply, (Vec<Folio>, Halt)>
+    requires ready { IsReady at.old (R.shown reach.old) }
+    requires free { (R.shown reach.old).hands ≡ no_hands }
+    requires some { 0 < length bytes.now }
+    requires within { off + length bytes.now ≤ PAGE_BYTES }
+    ensures comes { IfOk result (λ reply. Comes labels.now.bound labels.now.bound (Command.Write label off bytes.now) reply at.old at.new (R.shown reach.old) (R.shown reach.new)) }
+    ensures halts { IfErr result (λ h. Halts labels.now.bound labels.now.bound h.1 at.old at.new (R.shown reach.old) (R.shown reach.new)) }
+    ensures given_up { IfErr result (λ h. AreOf (R.shown reach.old).anchor.home h.0.items) }
+{
+    match write_turns(alloc, reach, labels, at, label, off, bytes) {
+        Ok(reply) => Ok(reply),
+        Err(Stopped { folios, stuck }) => Err((folios, release(reach, stuck))),
+    }
+}
+
+/// The turns of a `write`.
+fn write_turns<R: Reach>(
+    alloc: Global,
+    reach: &mut R,
+    labels: &Labels,
+    at: &mut At,
+    label: Name,
+    off: u32,
+    bytes: &Items<u8>,
+) -> Result<Reply, Stopped>
+    requires ready { IsReady at.old (R.shown reach.old) }
+    requires free { (R.shown reach.old).hands ≡ no_hands }
+    requires some { 0 < length bytes.now }
+    requires within { off + length bytes.now ≤ PAGE_BYTES }
+    ensures comes { IfOk result (λ reply. Comes labels.now.bound labels.now.bound (Command.Write label off bytes.now) reply at.old at.new (R.shown reach.old) (R.shown reach.new)) }
+    ensures stopped { IfErr result (λ s. SticksAfter s.stuck at.old at.new (R.shown reach.old) (R.shown reach.new)) }
+    ensures given_up { IfErr result (λ s. AreOf (R.shown reach.old).anchor.home s.folios.items) }
+{
+    let reply = match labels.file(label) {
+        Some(file) => reply_of(write_file(alloc, reach, at, file, off, bytes)?),
+        None => Reply::BadFd,
+    };
+    match end_told(reach, at, reply) {
+        Ok(reply) => Ok(reply),
+        Err(stuck) => Err(empty_handed(alloc, stuck)),
+    }
+}
