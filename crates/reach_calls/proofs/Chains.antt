@@ -61,8 +61,8 @@ ready_after ds at at' a a' r h = record {
   agent = ap (λ (t : At). t.agent.0) h.at_is ∙ r.agent ∙ sym h.number;
   kernel = ap (λ (t : At). t.kernel) h.at_is ∙ r.kernel ∙ sym (ap (λ x. x.kernel) h.anchor);
   last =
-    subst (λ l. IsTrue (list_all (λ p. nat_le p.entry.stamp at'.last) l)) (append_assoc a.earlier a.log h.made ∙ sym ((λ i. h.earlier i ++ h.log i)))
-    (all_below at.last at'.last (rises (begun a) at at.last ds h.made at'.last h.done) (a.earlier ++ a.log) h.made r.last (made_below (begun a) at at.last ds h.made at'.last h.done));
+      subst (λ l. IsTrue (list_all (λ p. nat_le p.entry.stamp at'.last) l)) (append_assoc a.earlier a.log h.made ∙ sym ((λ i. h.earlier i ++ h.log i)))
+      (all_below at.last at'.last (rises (begun a) at at.last ds h.made at'.last h.done) (a.earlier ++ a.log) h.made r.last (made_below (begun a) at at.last ds h.made at'.last h.done));
 }
 
 entries_append : (ps qs : List Paired) → map (λ p. p.entry) (ps ++ qs) ≡ map (λ p. p.entry) ps ++ map (λ p. p.entry) qs
@@ -88,10 +88,10 @@ then_goes ds ds' at at1 at2 a a1 a2 h k = record {
   made = h.made ++ k.made;
   log = k.log ∙ ap (λ l. l ++ k.made) h.log ∙ append_assoc a.log h.made k.made;
   done =
-    done_append (begun a) at at.last ds ds' h.made k.made at1.last at2.last h.done
-    (done_last (begun a) at at1.last at1.last ds' k.made at2.last
-    (subst (λ (t : At). AreDone (begun a) t at1.last ds' k.made at2.last) h.at_is
-    (subst (λ s. AreDone (λ o. state_in (s o)) at1 at1.last ds' k.made at2.last) h.starts k.done)));
+      done_append (begun a) at at.last ds ds' h.made k.made at1.last at2.last h.done
+      (done_last (begun a) at at1.last at1.last ds' k.made at2.last
+      (subst (λ (t : At). AreDone (begun a) t at1.last ds' k.made at2.last) h.at_is
+      (subst (λ s. AreDone (λ o. state_in (s o)) at1 at1.last ds' k.made at2.last) h.starts k.done)));
   at_is = k.at_is ∙ ap (λ (t : At). with_last at2.last t) h.at_is;
   number = k.number ∙ h.number;
   anchor = k.anchor ∙ h.anchor;

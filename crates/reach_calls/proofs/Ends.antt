@@ -27,12 +27,17 @@ module _ (at : At) (a a0 : Agent) (room : a0 ≡ record a { room = a0.room }) (r
 
   own_done : (p : Paired) → p.entry ≡ entry_of at (end_with reply) (at.last + 1) → p.before ≡ [] → at.last < 2 ^ 63 → AreDone (begun a) at at.last (end_with reply ∷ []) (p ∷ []) (at.last + 1)
   unfolding AreDone last_stamp_from
-  own_done p is before early =
-      (is ∙ ap (entry_of at (end_with reply)) (next at.last) ∙ ap (λ h. entry_of at (end_with reply) (1 + max at.last (last_stamp h))) (sym before), early,
-      subst (λ h. last_stamp h < 2 ^ 63) (sym before) small, tt, sym (ap (λ (x : Entry). x.stamp) is))
+  own_done p is before early = (
+    is ∙ ap (entry_of at (end_with reply)) (next at.last) ∙ ap (λ h. entry_of at (end_with reply) (1 + max at.last (last_stamp h))) (sym before),
+    early,
+    subst (λ h. last_stamp h < 2 ^ 63) (sym before) small,
+    tt,
+    sym (ap (λ (x : Entry). x.stamp) is),
+  )
     where
       next : (n : ℕ) → n + 1 ≡ 1 + max n 0
       next n = omega arith
+
       small : 0 < 2 ^ 63
       small = omega arith
 
@@ -53,6 +58,6 @@ module _ (at : At) (a a0 : Agent) (room : a0 ≡ record a { room = a0.room }) (r
     earlier = ap (λ (x : Agent). x.earlier) gave.shows.same ∙ ap (λ (x : Agent). x.earlier) room;
     hands = ap (λ (x : Agent). x.hands) gave.shows.same ∙ ap (λ (x : Agent). x.hands) room;
     told =
-      subst (λ t. TellsMore (gave.pair ∷ []) a.told t)
-      (sym (ap (λ (x : Agent). x.told) gave.shows.same ∙ ap (λ (x : Agent). x.told) room)) (tells_own gave.pair gave.entry a.told);
+        subst (λ t. TellsMore (gave.pair ∷ []) a.told t)
+        (sym (ap (λ (x : Agent). x.told) gave.shows.same ∙ ap (λ (x : Agent). x.told) room)) (tells_own gave.pair gave.entry a.told);
   }

@@ -173,9 +173,9 @@ under_with at halt (Some x) n a a1 a2 o s h gave = record {
   found = there_of a (without n a) x.0.0 x.1 refl refl s.found;
   free = free_of (x.0.0 == n) refl;
   same =
-    gave.same
-    ∙ (λ i. record (s.same i) { hands = with_at n None (s.same i).hands; room = a2.room; back = (sym (ap (λ (y : Agent). y.back) gave.same)) i })
-    ∙ (λ i. record a { hands = commute n x.0.0 None (Some (known_of x.1)) a.hands other i; room = a2.room; back = a2.back });
+      gave.same
+      ∙ (λ i. record (s.same i) { hands = with_at n None (s.same i).hands; room = a2.room; back = (sym (ap (λ (y : Agent). y.back) gave.same)) i })
+      ∙ (λ i. record a { hands = commute n x.0.0 None (Some (known_of x.1)) a.hands other i; room = a2.room; back = a2.back });
   cause = s.cause;
 }
   where
@@ -184,6 +184,7 @@ under_with at halt (Some x) n a a1 a2 o s h gave = record {
       where
         clash : Some (known_of o) ≡ None → ⊥
         clash e = absurd cc
+
     free_of : (b : Bool) → (x.0.0 == n) ≡ b → with_at n None a.hands x.0.0 ≡ None
     free_of true is = ap (λ b. cond b None (a.hands x.0.0)) is
     free_of false is = ap (λ b. cond b None (a.hands x.0.0)) is ∙ s.free

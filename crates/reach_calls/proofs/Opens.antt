@@ -67,5 +67,5 @@ module _ (at : At) (n : ℕ) (a a0 a1 : Agent) (o o' : Object) (room : a0 ≡ re
     room = more;
     log_room = subst (λ (r : ℕ). 1 ≤ r) (sym (ap (λ (x : Agent). x.room) took_it)) log_room;
     same =
-      took_it ∙ (λ i. record (room i) { hands = with_at n (Some (sym (known_same o o' same) i)) (room i).hands; room = (ap (λ (x : Agent). x.room) (sym took_it)) i; back = (ap (λ (x : Agent). x.back) (sym took_it)) i });
+        took_it ∙ (λ i. record (room i) { hands = with_at n (Some (sym (known_same o o' same) i)) (room i).hands; room = (ap (λ (x : Agent). x.room) (sym took_it)) i; back = (ap (λ (x : Agent). x.back) (sym took_it)) i });
   }

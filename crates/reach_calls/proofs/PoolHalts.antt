@@ -64,6 +64,7 @@ hands_more f n k free o j is = point (o == n) refl
   where
     same : (o == n) ≡ true → o ≡ n
     same t = grind (arith, nat_tests)
+
     point : (b : Bool) → (o == n) ≡ b → with_at n (Some k) f o ≡ Some j
     point true t = absurd (clash (sym is ∙ ap f (same t) ∙ free))
       where

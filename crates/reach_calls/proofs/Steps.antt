@@ -32,6 +32,7 @@ put_back n h f e = λ i k. point k (k == n) refl i
   where
     same : (k : ℕ) → (k == n) ≡ true → k ≡ n
     same k is = grind (arith, nat_tests)
+
     point : (k : ℕ) (b : Bool) → (k == n) ≡ b → with_at n None (with_at n (Some h) f) k ≡ f k
     point k true is = ap (λ b. cond b None (cond b (Some h) (f k))) is ∙ sym (ap f (same k is) ∙ e)
     point k false is = ap (λ b. cond b None (cond b (Some h) (f k))) is
@@ -167,6 +168,7 @@ module _ (at : At) (n : ℕ) (a a1 : Agent) (o : Object) (d : Deed) (e : Entry) 
     where
       up : at.last < e.stamp
       up = let stamp : e.stamp ≡ 1 + max at.last (last_stamp (history_of o)) = ap (λ (x : Entry). x.stamp) entry in omega (arith, stamp)
+
       some_room : 0 < a1.room
       some_room = let r : 1 ≤ a1.room = opens.log_room in omega (arith, r)
 
@@ -178,13 +180,17 @@ module _ (at : At) (n : ℕ) (a a1 : Agent) (o : Object) (d : Deed) (e : Entry) 
     where
       same : (k : ℕ) → (k == n) ≡ true → k ≡ n
       same k is = grind (arith, nat_tests)
+
       swap : (k : ℕ) (b : Bool) → (k == n) ≡ b → (n == k) ≡ b
       swap k true is = grind (arith, nat_tests)
       swap k false is = grind (arith, nat_tests)
+
       tests : (k : ℕ) (b : Bool) → (k == n) ≡ b → is_on k p.entry.object ≡ b
       tests k b t = ap (λ (x : Entry). is_on k x.object) is ∙ ap (is_on k) object_is ∙ swap k b t
+
       on_it : (k : ℕ) (b : Bool) → (k == n) ≡ b → on k (p.entry ∷ []) ≡ cond b (p.entry ∷ []) []
       on_it k b t = ap (λ x. cond x (p.entry ∷ []) []) (tests k b t)
+
       point : (k : ℕ) (b : Bool) → (k == n) ≡ b → with_at n (f n ++ p.entry ∷ []) f k ≡ f k ++ on k (p.entry ∷ [])
       point k true t =
           ap (λ b. cond b (f n ++ p.entry ∷ []) (f k)) t ∙ ap (λ m. f m ++ p.entry ∷ []) (sym (same k t)) ∙ ap (λ xs. f k ++ xs) (sym (on_it k true t))
@@ -193,9 +199,13 @@ module _ (at : At) (n : ℕ) (a a1 : Agent) (o : Object) (d : Deed) (e : Entry) 
 
   one_done : (p : Paired) → p.entry ≡ e → p.before ≡ history_of o → AreClaimed (begun a) p.known d.claims → AreDone (begun a) at at.last (d ∷ []) (p ∷ []) e.stamp
   unfolding AreDone
-  one_done p is before claimed =
-      (is ∙ entry ∙ ap (λ h. entry_of at d (1 + max at.last (last_stamp h))) (sym before), opens.early,
-      subst (λ h. last_stamp h < 2 ^ 63) (sym before) opens.last, claimed, sym (ap (λ (x : Entry). x.stamp) is))
+  one_done p is before claimed = (
+    is ∙ entry ∙ ap (λ h. entry_of at d (1 + max at.last (last_stamp h))) (sym before),
+    opens.early,
+    subst (λ h. last_stamp h < 2 ^ 63) (sym before) opens.last,
+    claimed,
+    sym (ap (λ (x : Entry). x.stamp) is),
+  )
 
   -- the turn was that deed
   pub turned : (a2 : Agent) → AreClaimed (begun a) a1.hands d.claims → HasEnded a1 n (Some e) (a1.hands n) a2 → Goes (d ∷ []) at (record at { last = e.stamp }) a a2
@@ -209,10 +219,10 @@ module _ (at : At) (n : ℕ) (a a1 : Agent) (o : Object) (d : Deed) (e : Entry) 
     starts = ap (λ (x : Agent). x.starts) g.shows.same ∙ ap (λ (x : Agent). x.starts) opens.same;
     earlier = ap (λ (x : Agent). x.earlier) g.shows.same ∙ ap (λ (x : Agent). x.earlier) opens.same;
     hands =
-      ap (λ (x : Agent). x.hands) g.shows.same ∙ ap (λ (x : Agent). with_at n None x.hands) opens.same ∙ put_back n (known_of o) a.hands free;
+        ap (λ (x : Agent). x.hands) g.shows.same ∙ ap (λ (x : Agent). with_at n None x.hands) opens.same ∙ put_back n (known_of o) a.hands free;
     told =
-      subst (λ t. TellsMore (g.pair ∷ []) a.told t)
-      (sym (ap (λ (x : Agent). x.told) g.shows.same ∙ ap (λ (x : Agent). told_with n g.pair.entry x.told) opens.same)) (tells_one g.pair g.entry a.told);
+        subst (λ t. TellsMore (g.pair ∷ []) a.told t)
+        (sym (ap (λ (x : Agent). x.told) g.shows.same ∙ ap (λ (x : Agent). told_with n g.pair.entry x.told) opens.same)) (tells_one g.pair g.entry a.told);
   }
     where
       g : Entered a1 n (known_of o) e a2

@@ -68,6 +68,7 @@ plain_answer false (suc h) e = absurd (clash (succ_is h) e)
   where
     succ_is : (h : ℕ) → (suc h == 0) ≡ false
     succ_is h = grind (arith, nat_tests)
+
     clash : {b : Bool} → b ≡ false → IsTrue b → ⊥
     clash {b = true} is t = absurd cc
     clash {b = false} is t = absurd cc
@@ -189,6 +190,7 @@ few_touched f off len = go (len == 0)
         let less : length (holes f (touched f off len)) ≤ length (touched f off len) = filtered _ (touched f off len) in
         let long : length (touched f off len) ≡ pieces (off + len) (index_bytes f) - off / index_bytes f = length-map (upto (pieces (off + len) (index_bytes f) - off / index_bytes f)) (λ i. off / index_bytes f + i) ∙ long_upto _ in
         omega (arith, less, long)
+
     go : (b : Bool) → length (cond b [] (holes f (touched f off len))) ≤ pieces (off + len) (index_bytes f) - off / index_bytes f
     go true = omega arith
     go false = all
@@ -199,8 +201,10 @@ taking_fits f o off len h same within count some = rw (sym same, first, second, 
   where
     first : nat_lt 0 h ≡ true
     first = grind (arith, nat_tests)
+
     second : nat_le (off + len) FILE_BYTES ≡ true
     second = grind (arith, nat_tests)
+
     third : nat_le h (pieces (off + len) (PAGE_BYTES * 2 ^ f.order) - off / (PAGE_BYTES * 2 ^ f.order)) ≡ true
     third = let less : length (touched_holes f off len) ≤ pieces (off + len) (index_bytes f) - off / index_bytes f = few_touched f off len in grind (arith, nat_tests)
 

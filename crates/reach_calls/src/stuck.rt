@@ -5,8 +5,8 @@ ghost use Rattle.reach_core.specs.Agents.{Agent};
 ghost use Rattle.reach_calls.specs.Stuck.{CanRelease, Released};
 
 use ho_base::numbers::ObjectNo;
-use reach_core::{Halt, Object, Reach};
 use phys_frames::folio::Folio;
+use reach_core::{Halt, Object, Reach};
 use std::alloc::Global;
 
 /// Why a turn can't be taken. Where the halt speaks of an object, or memory ran out with it in hand, it is still in

@@ -19,9 +19,9 @@ use ho_base::numbers::{FileNo, Kind, ObjectNo, Order};
 use ho_events::event::Event;
 use ho_events::reply::Reply;
 use ho_events::slip::{At, Listed, Turned};
-use reach_core::{Halt, Object, Reach};
 use memfd_file::{Facts, FileObject};
 use phys_frames::folio::Folio;
+use reach_core::{Halt, Object, Reach};
 use std::alloc::Global;
 
 /// A file, still in hand, that can't make the event that is due.

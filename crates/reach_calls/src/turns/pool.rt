@@ -16,9 +16,9 @@ use ho_base::numbers::{ObjectNo, Order, Pfn};
 use ho_events::event::Event;
 use ho_events::reply::Reply;
 use ho_events::slip::{At, Listed, Turned};
-use reach_core::{Halt, Object, Reach};
 use phys_frames::folio::Folio;
 use pool_core::Pool;
+use reach_core::{Halt, Object, Reach};
 use std::alloc::Global;
 use std::snapshot::Snapshot;
 

@@ -44,11 +44,7 @@ pub fn new_file<R: Reach>(alloc: Global, reach: &mut R, at: &mut At) -> Result<R
     let (slip, mut registry) = open_registry(alloc, reach, *at, Listed::nothing())?;
     let Turned { entry, value } = registry.new_file(slip);
     at.last = entry.stamp;
-    reach.end(
-        ObjectNo::REGISTRY,
-        Object::Registry(registry),
-        Some(entry),
-    );
+    reach.end(ObjectNo::REGISTRY, Object::Registry(registry), Some(entry));
     Ok(value)
 }
 
@@ -70,11 +66,7 @@ pub fn create_name<R: Reach>(
     let (slip, mut registry) = open_registry(alloc, reach, *at, Listed::nothing())?;
     let Turned { entry, value } = registry.create(slip, name);
     at.last = entry.stamp;
-    reach.end(
-        ObjectNo::REGISTRY,
-        Object::Registry(registry),
-        Some(entry),
-    );
+    reach.end(ObjectNo::REGISTRY, Object::Registry(registry), Some(entry));
     Ok(value)
 }
 
@@ -96,11 +88,7 @@ pub fn find_out<R: Reach>(
     let (slip, mut registry) = open_registry(alloc, reach, *at, Listed::nothing())?;
     let Turned { entry, value } = registry.find_out(slip, name);
     at.last = entry.stamp;
-    reach.end(
-        ObjectNo::REGISTRY,
-        Object::Registry(registry),
-        Some(entry),
-    );
+    reach.end(ObjectNo::REGISTRY, Object::Registry(registry), Some(entry));
     Ok(value)
 }
 
@@ -124,11 +112,7 @@ pub fn free_file<R: Reach>(
     }
     let Turned { entry, value: _ } = registry.free_file(slip, file);
     at.last = entry.stamp;
-    reach.end(
-        ObjectNo::REGISTRY,
-        Object::Registry(registry),
-        Some(entry),
-    );
+    reach.end(ObjectNo::REGISTRY, Object::Registry(registry), Some(entry));
     Ok(())
 }
 
@@ -151,10 +135,6 @@ pub fn drop_name<R: Reach>(
     }
     let Turned { entry, value: _ } = registry.drop_name(slip, name);
     at.last = entry.stamp;
-    reach.end(
-        ObjectNo::REGISTRY,
-        Object::Registry(registry),
-        Some(entry),
-    );
+    reach.end(ObjectNo::REGISTRY, Object::Registry(registry), Some(entry));
     Ok(())
 }

@@ -11,12 +11,7 @@ use reach_core::{Halt, LATE, Object, Reach};
 use std::alloc::Global;
 
 /// What the end of a turn wants beside the object, which is in hand: room in the agent's log, and a slip for the entry.
-pub fn resume<R: Reach>(
-    alloc: Global,
-    reach: &mut R,
-    at: At,
-    listed: Listed,
-) -> Result<Slip, Stuck>
+pub fn resume<R: Reach>(alloc: Global, reach: &mut R, at: At, listed: Listed) -> Result<Slip, Stuck>
     ensures at { IfOk result (λ slip. slip.at ≡ at) }
     ensures listed { IfOk result (λ slip. slip.room ≡ listed) }
     ensures early { OnOk result (at.last < 2 ^ 63) }

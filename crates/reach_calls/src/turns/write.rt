@@ -31,9 +31,9 @@ use ho_base::numbers::{FileNo, Kind, ObjectNo, Order, Pfn};
 use ho_events::event::Event;
 use ho_events::reply::Reply;
 use ho_events::slip::{At, Listed, Slip, Turned};
-use reach_core::{Halt, Object, Reach};
 use memfd_file::{Facts, FileObject};
 use phys_frames::folio::Folio;
+use reach_core::{Halt, Object, Reach};
 use std::alloc::Global;
 use std::snapshot::Snapshot;
 

@@ -29,6 +29,6 @@ returns-else-is_frozen-clause-told g c =
     taking_wrote _ _ c.args.off (length c.args.bytes.now) _ c.write_taking.result c.requires.within c.write_taking.ensures.takes c.in-Ok.ensures.memfd
     (subst (λ n. FileHas c.in-Ok.opened.0 (λ f. c.holes-holes.result ≡ length (touched_holes f c.args.off n))) c.len-len.ensures c.holes-holes.ensures)
     (elim c.if-holes-eq0.branch [
-    | then-holes-eq0 w ↦ absurd (no_clash _ (w.value-is ∙ ap (λ h. nat_eq h 0) w.if-holes-eq0.true) c.if-is_frozen.false)
-    | else-holes-eq0 w ↦ some_holes _ w.if-holes-eq0.false
-  ])
+      | then-holes-eq0 w ↦ absurd (no_clash _ (w.value-is ∙ ap (λ h. nat_eq h 0) w.if-holes-eq0.true) c.if-is_frozen.false)
+      | else-holes-eq0 w ↦ some_holes _ w.if-holes-eq0.false
+    ])
