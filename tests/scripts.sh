@@ -24,7 +24,7 @@ check "a script of 1,048,577 bytes" 1 "script refused: too long$newline" ""
 
 : >"$work/script"
 run_program run script
-check "a script of no bytes" 1 "script refused: line 1: later$newline" ""
+check "a script of no bytes" 1 "script refused: line 1: end$newline" ""
 
 every_byte() {
     local n
@@ -35,18 +35,18 @@ every_byte() {
 
 every_byte >"$work/script"
 run_program run script
-check "a script with every byte" 1 "script refused: line 1: later$newline" ""
+check "a script with every byte" 1 "script refused: line 1: byte$newline" ""
 
 {
     printf 'machine 64\nscratch 1 8\n'
     every_byte
 } >"$work/script"
 run_program run script
-check "every byte behind a machine" 1 "script refused: line 3: later$newline" ""
+check "every byte after a machine" 1 "script refused: line 3: byte$newline" ""
 
 printf 'machine 64\n' >"$work/script"
 run_program run script
-check "an end before the first scratch line" 1 "script refused: line 2: later$newline" ""
+check "an end before the first scratch line" 1 "script refused: line 2: end$newline" ""
 
 printf 'machine 64\nscratch 1 8\nround\nagent a\nmemfd m 0\nwrite m 0 68656c6c6f\ncreate s\npreserve s 7 m\nclose s\nkexec 1 4\n' >"$work/script"
 run_program run script
@@ -54,11 +54,43 @@ check "a line that isn't built" 1 "script refused: line 10: later$newline" ""
 
 printf 'machine 31\n' >"$work/script"
 run_program run script
-check "a machine that is too small" 1 "script refused: line 1: later$newline" ""
+check "a machine that is too small" 1 "script refused: line 1: number$newline" ""
 
 printf 'machine 64\nscratch 1 8\nround\nagent a\ncreate %064d\n' 0 >"$work/script"
 run_program run script
-check "a name of 64 bytes" 1 "script refused: line 5: later$newline" ""
+check "a name of 64 bytes" 1 "script refused: line 5: name$newline" ""
+
+# One line for each reason; a line that breaks several rules has the first of them.
+refused_for() {
+    printf 'machine 64\nscratch 1 8\nround\nagent a\nmemfd m 0\n%b\n' "$2" >"$work/script"
+    run_program run script
+    check "refused for $1: $2" 1 "script refused: line ${3:-6}: $1$newline" ""
+}
+refused_for word 'format m'
+refused_for later 'kexec 1 4'
+refused_for later 'memfd n 1'
+refused_for later 'write m 4096 00'
+refused_for later 'agent b'
+refused_for later 'fill m 0 1 1'
+refused_for count 'write m 0'
+refused_for number 'write m x 00'
+refused_for number 'read m 0 4097'
+refused_for name 'create a/b'
+refused_for hex 'write m 0 0'
+refused_for place 'machine 64'
+refused_for place 'scratch 20 1'
+refused_for place 'agent a'
+refused_for label 'memfd m 0'
+refused_for place 'round\nmemfd n 0' 7
+printf 'machine 64\nscratch 1 8\nscratch 4 8\n' >"$work/script"
+run_program run script
+check "refused for shape" 1 "script refused: line 3: shape$newline" ""
+{
+    printf 'machine 64\nscratch 1 8\n'
+    for round in $(seq 1 65); do echo round; done
+} >"$work/script"
+run_program run script
+check "refused for limit: the 65th round" 1 "script refused: line 67: limit$newline" ""
 
 printf 'machine 64\nscratch 1 8\nround\nagent a\ncreate %063d' 0 >"$work/script"
 run_program run script

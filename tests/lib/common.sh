@@ -57,6 +57,16 @@ check() {
     fi
 }
 
+# expect NAME WANTED GOT: two texts are the same.
+expect() {
+    if [ "$3" = "$2" ]; then
+        pass "$1"
+    else
+        fail "$1"
+        diff <(printf '%s\n' "$2") <(printf '%s\n' "$3") | head -n 10
+    fi
+}
+
 # The last line tells the counts; the status tells whether anything failed.
 finish() {
     echo "$passed passed, $failed failed"

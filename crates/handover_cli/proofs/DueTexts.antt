@@ -1,6 +1,6 @@
 -- What is due for a script that was read, that is refused, or that is too long.
 use Rattle.std.proofs.Common.{◌≡◌, ℕ, ◌+◌, ◌<◌, ◌≤◌, Bool, true, false, not, nat_lt, List, ◌++◌, length, length-append, take, refl, ap, sym, ◌∙◌, arith, subst}
-use Rattle.std.specs.Prelude.{Option, None, Some, option_map, if◌then◌else◌, Result, Ok, Err, MatchOption, Vec}
+use Rattle.std.specs.Prelude.{Option, None, Some, option_map, if◌then◌else◌, Result, Ok, Err, Vec}
 use Rattle.std.specs.Result.{result_ok, result_err}
 use Rattle.std.specs.declared.alloc.Global.{Global}
 use Rattle.std.proofs.lemmas.Bool.Decides.{nat_tests}
@@ -9,11 +9,14 @@ use Rattle.ho_io.specs.Told.{behind, in_front}
 use Rattle.ho_io.specs.Outcome.{IfTooLong}
 use Rattle.ho_io.specs.declared.source.ReadError.{ReadError}
 use Rattle.ho_io.specs.declared.source.ReadError.TheVariants.{TooLong}
-use Rattle.ho_events.specs.Script.{Refusal, script_of, outcome_of}
+use Rattle.ho_events.specs.Script.{Refusal, script_of, outcome_of, refusal_of as script_refusal}
+use Rattle.ho_events.specs.declared.line.Reason.{Reason}
 use Rattle.ho_events.specs.declared.script.Script.{Script}
-use Rattle.handover_cli.specs.Refusals.{refused_line, refusal_of, line_text, too_long_text, IsRefusal}
-use Rattle.handover_cli.specs.Run.{IsLegalText}
-use Rattle.handover_cli.specs.Due.{IsDueOf, IsDue, WroteFront}
+use Rattle.script_text.specs.Errors.{Says}
+use Rattle.script_text.specs.declared.ScriptError.{ScriptError}
+use Rattle.script_text.specs.declared.ScriptError.TheVariants.{Bad}
+use Rattle.handover_cli.specs.Refusals.{refusal_of, refusal_text, too_long_text, IsRefusal}
+use Rattle.handover_cli.specs.Due.{WroteFront}
 
 chosen : {A : Type 0} → (b : Bool) → (x y : A) → b ≡ false → (if b then x else y) ≡ y
 chosen false x y h = refl
@@ -30,7 +33,7 @@ past_test : (n m : ℕ) → m < n → nat_lt m n ≡ true
 past_test n m h = grind (arith, nat_tests)
 
 -- a script that isn't too long is refused by its first refused line alone
-pub refusal_within : (bytes : List ℕ) → length bytes ≤ SCRIPT_BYTES → refusal_of bytes ≡ option_map line_text (refused_line bytes)
+pub refusal_within : (bytes : List ℕ) → length bytes ≤ SCRIPT_BYTES → refusal_of bytes ≡ option_map refusal_text (script_refusal true bytes)
 unfolding refusal_of
 refusal_within bytes h = chosen _ _ _ (within_test (length bytes) SCRIPT_BYTES h)
 
@@ -45,43 +48,16 @@ no_error (Err n) script h = absurd cc
 
 -- a script that is read isn't refused
 pub accepted : (bytes : List ℕ) → length bytes ≤ SCRIPT_BYTES → (script : Script) → script_of true bytes ≡ Some script → refusal_of bytes ≡ None
-accepted bytes short script h = refusal_within bytes short ∙ ap (λ (r : Option Refusal). option_map line_text (option_map (λ r. r.line) r)) (no_error (outcome_of true bytes) script h)
+accepted bytes short script h = refusal_within bytes short ∙ ap (option_map refusal_text) (no_error (outcome_of true bytes) script h)
 
 -- its first refused line is told
-pub refused : (bytes : List ℕ) → length bytes ≤ SCRIPT_BYTES → (line : ℕ) → refused_line bytes ≡ Some line → refusal_of bytes ≡ Some (line_text line)
-refused bytes short line h = refusal_within bytes short ∙ ap (option_map line_text) h
-
--- a front part of a text that is due
-pub front : (is_due : List ℕ → Type 0) (old new : Option (List ℕ)) (text given : List ℕ) → is_due text → given ≡ text
-    → (n : ℕ) × ((n < length given) × (new ≡ behind old (take n given))) → WroteFront is_due old new
-front is_due old new text given due same part = record {
-  text = text;
-  due = due;
-  count = part.0;
-  less = subst (λ xs. part.0 < length xs) same part.1.0;
-  written = part.1.1 ∙ ap (λ xs. behind old (take part.0 xs)) same;
-}
+pub refused : (bytes : List ℕ) → length bytes ≤ SCRIPT_BYTES → (r : Refusal) → script_refusal true bytes ≡ Some r → refusal_of bytes ≡ Some (refusal_text r)
+refused bytes short r h = refusal_within bytes short ∙ ap (option_map refusal_text) h
 
 -- what is due by one rule is due by another that it implies
 pub front_by : (first second : List ℕ → Type 0) (old new : Option (List ℕ)) → ((text : List ℕ) → first text → second text)
     → WroteFront first old new → WroteFront second old new
 front_by first second old new implies h = record { text = h.text; due = implies h.text h.due; count = h.count; less = h.less; written = h.written }
-
-is_due_of : (found : Option (List ℕ)) (refusal : List ℕ → Option (List ℕ)) (bytes text : List ℕ) → refusal bytes ≡ found
-    → MatchOption found (IsLegalText bytes text) (λ line. text ≡ line) → MatchOption (refusal bytes) (IsLegalText bytes text) (λ line. text ≡ line)
-is_due_of found refusal bytes text e h = subst (λ o. MatchOption o (IsLegalText bytes text) (λ line. text ≡ line)) (sym e) h
-
--- the text of a legal history is due for a script that isn't refused;  the line of its refusal for one that is
-pub due_history : (bytes text : List ℕ) → refusal_of bytes ≡ None → IsLegalText bytes text → IsDueOf bytes text
-due_history bytes text e h = is_due_of None refusal_of bytes text e h
-
-pub due_refusal : (bytes line : List ℕ) → refusal_of bytes ≡ Some line → (text : List ℕ) → text ≡ line → IsDueOf bytes text
-due_refusal bytes line e text h = is_due_of (Some line) refusal_of bytes text e h
-
--- the line of a refusal is due for a script that is told
-pub due_told : (told : Option (List ℕ)) (line : List ℕ) → IsRefusal told line → (text : List ℕ) → text ≡ line → IsDue told text
-due_told None line h text e = tt
-due_told (Some bytes) line h text e = due_refusal bytes line h text e
 
 -- a script is too long where more was read than a script may have
 pub too_long_told : (told now : Option (List ℕ)) (bytes : List ℕ) → told ≡ in_front bytes now → length bytes ≡ SCRIPT_BYTES + 1
@@ -106,3 +82,15 @@ too_long_read read error bytes told left now is_error is_long long so_far same =
     let many : length bytes.items ≡ SCRIPT_BYTES + 1 = subst (λ r. IfTooLong r (λ b. length b ≡ SCRIPT_BYTES + 1)) is long in
     let front : left ≡ in_front bytes.items now = subst (λ r. IfTooLong r (λ b. left ≡ in_front b now)) is so_far in
     too_long_told told now bytes.items (sym same ∙ front) many
+
+-- the first refused line of a script that can't be read
+pub refusal_told : (bytes : List ℕ) (error : ScriptError) (line : ℕ) (reason : Reason) → Says (script_refusal true bytes) error → error ≡ Bad line reason → script_refusal true bytes ≡ Some (record { line = line; why = reason })
+refusal_told bytes error line reason h is = subst (λ e. Says (script_refusal true bytes) e) is h
+
+-- a text that is the line of a refusal
+pub line_due : (bytes line text : List ℕ) → text ≡ line → refusal_of bytes ≡ Some line → IsRefusal (Some bytes) text
+line_due bytes line text is h = h ∙ ap (λ xs. Some xs) (sym is)
+
+pub told_due : (told : Option (List ℕ)) (line text : List ℕ) → text ≡ line → IsRefusal told line → IsRefusal told text
+told_due None line text is h = tt
+told_due (Some bytes) line text is h = line_due bytes line text is h

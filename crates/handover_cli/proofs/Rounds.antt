@@ -1,72 +1,158 @@
 -- How an agent's work grows by a command.
-use Rattle.std.proofs.Common.{◌≡◌, ℕ, ◌+◌, List, [], ◌∷◌, ◌++◌, map, length, refl, ap, sym, ◌∙◌, subst, arith, length-append, take, ◌<◌, get_or}
-use Rattle.std.specs.Prelude.{Option, None, Some, option_map}
-use Rattle.std.proofs.lemmas.List.{take_more, length-take}
-use Rattle.ho_events.specs.History.{Paired}
-use Rattle.ho_events.specs.Sequences.{Act, Deed, Done, Labeled, Progress, Outcome, acts, deeds, numbered, labels_after, further, then_done, progress_from, at_first}
+use Rattle.std.proofs.Common.{◌≡◌, ℕ, ◌+◌, ◌<◌, ◌≤◌, max, nat_le, List, [], ◌∷◌, ◌++◌, length, map, get_or, append_assoc, refl, ap, sym, ◌∙◌, subst, arith, IsTrue, zero, suc}
+use Rattle.std.specs.Prelude.{Option, None, Some, slice_get}
+use Rattle.std.specs.List.{list_all}
+use Rattle.std.proofs.lemmas.Bool.Decides.{nat_tests}
+use Rattle.std.proofs.lemmas.List.{append-nil, map-append}
+use Rattle.ho_events.specs.History.{on, last_stamp}
+use Rattle.ho_events.specs.declared.entry.Entry.{Entry}
 use Rattle.ho_events.specs.declared.command.Command.{Command}
-use Rattle.ho_events.proofs.Deeds.{progress_push}
-use Rattle.handover_cli.specs.Rounds.{HasDone}
+use Rattle.ho_events.specs.declared.reply.Reply.{Reply}
+use Rattle.ho_events.specs.declared.slip.At.{At}
+use Rattle.ho_world.specs.World.{State}
+use Rattle.ho_world.specs.Logs.{Deed, Paired, AreDone, HasDone, deeds_of}
+use Rattle.ho_world.specs.Sequences.{Labels}
+use Rattle.ho_world.proofs.Fronts.{and_both, all_append, all_follow}
+use Rattle.ho_world.proofs.Rises.{on_parts}
+use Rattle.machine_core.specs.Agents.{Agent, begun, state_in}
+use Rattle.machine_core.specs.Commands.{Comes}
+use Rattle.machine_core.specs.Objects.{Start}
+use Rattle.machine_core.specs.Turns.{IsReady, TellsMore}
+use Rattle.handover_cli.specs.Rounds.{SameAgent}
 
--- what came of a command is the next step of the progress
-came_further : (p : Progress) → (d : Done) → (made : Option (List Act)) → (told : List Deed)
-    → option_map (λ made. p.deeds ++ map (numbered p.next) made) made ≡ Some told
-    → option_map (further p d) made ≡ Some (record { labels = labels_after p.labels d.command d.outcome; next = p.next + 1; deeds = told })
-came_further p d None told h = absurd cc
-came_further p d (Some made) told h =
-    let e : p.deeds ++ map (numbered p.next) made ≡ told = cc in
-    ap (λ ds. Some (record { labels = labels_after p.labels d.command d.outcome; next = p.next + 1; deeds = ds })) e
+le_test : (x y : ℕ) → x ≤ y → IsTrue (nat_le x y)
+le_test x y h = grind (arith, nat_tests)
 
-map_push : {A B : Type 0} → (f : A → B) → (xs : List A) → (x : A) → map f (xs ++ x ∷ []) ≡ map f xs ++ f x ∷ []
-map_push f [] x = refl
-map_push f (y ∷ xs) x = ap (λ more. f y ∷ more) (map_push f xs x)
+le_true : (x y : ℕ) → IsTrue (nat_le x y) → x ≤ y
+le_true x y h = grind (arith, nat_tests)
+
+-- the last stamp rises with each deed
+last_rises : (begun : ℕ → Option State) (at : At) (last : ℕ) (ds : List Deed) (ps : List Paired) (last' : ℕ) → AreDone begun at last ds ps last' → last ≤ last'
+unfolding AreDone
+last_rises begun at last [] [] last' h = omega (arith, h)
+last_rises begun at last [] (p ∷ ps) last' h = absurd h
+last_rises begun at last (d ∷ ds) [] last' h = absurd h
+last_rises begun at last (d ∷ ds) (p ∷ ps) last' h =
+    let stamp : p.entry.stamp ≡ 1 + max last (last_stamp p.before) = ap (λ e. e.stamp) h.0 in
+    omega (arith, stamp, last_rises begun at p.entry.stamp ds ps last' h.4)
+
+-- no deed is stamped after the last one
+none_after : (begun : ℕ → Option State) (at : At) (last : ℕ) (ds : List Deed) (ps : List Paired) (last' : ℕ) → AreDone begun at last ds ps last' → IsTrue (list_all (λ p. nat_le p.entry.stamp last') ps)
+unfolding AreDone
+none_after begun at last [] [] last' h = refl
+none_after begun at last [] (p ∷ ps) last' h = absurd h
+none_after begun at last (d ∷ ds) [] last' h = absurd h
+none_after begun at last (d ∷ ds) (p ∷ ps) last' h =
+    and_both (nat_le p.entry.stamp last') _ (le_test p.entry.stamp last' (last_rises begun at p.entry.stamp ds ps last' h.4)) (none_after begun at p.entry.stamp ds ps last' h.4)
+
+up_to : (last last' : ℕ) (ps : List Paired) → last ≤ last' → IsTrue (list_all (λ p. nat_le p.entry.stamp last) ps) → IsTrue (list_all (λ p. nat_le p.entry.stamp last') ps)
+up_to last last' ps up h = all_follow (λ p. nat_le p.entry.stamp last) (λ p. nat_le p.entry.stamp last') ps (λ p t. further p.entry.stamp t) h
+  where
+    further : (x : ℕ) → IsTrue (nat_le x last) → IsTrue (nat_le x last')
+    further x t = le_test x last' (omega (arith, up, le_true x last t))
+
+-- where the next command begins
+abbrev pub next_at : At → ℕ → At
+next_at at last = record at { command = at.command + 1; last = last }
+
+append_twice : (xs ys zs : List Paired) → (xs ++ ys) ++ zs ≡ xs ++ (ys ++ zs)
+append_twice [] ys zs = refl
+append_twice (x ∷ xs) ys zs = ap (λ ws. x ∷ ws) (append_twice xs ys zs)
+
+-- the agent is ready for the next command
+pub still_ready : (labels labels' : Labels) (command : Command) (reply : Reply) (at : At) (last : ℕ) (a a' : Agent)
+    → IsReady at a → Comes labels labels' command reply at (record at { last = last }) a a' → IsReady (next_at at last) a'
+still_ready labels labels' command reply at last a a' ready came =
+    let g = came.goes in
+    let up : at.last ≤ last = last_rises (begun a) at at.last (deeds_of came.sequence) g.made last g.done in
+    let old : IsTrue (list_all (λ p. nat_le p.entry.stamp last) (a.earlier ++ a.log)) = up_to at.last last (a.earlier ++ a.log) up ready.last in
+    let new : IsTrue (list_all (λ p. nat_le p.entry.stamp last) g.made) = none_after (begun a) at at.last (deeds_of came.sequence) g.made last g.done in
+    let whole : a'.earlier ++ a'.log ≡ (a.earlier ++ a.log) ++ g.made = ap (λ es. es ++ a'.log) g.earlier ∙ ap (λ ps. a.earlier ++ ps) g.log ∙ sym (append_twice a.earlier a.log g.made) in
+    record {
+      agent = ready.agent ∙ sym g.number;
+      kernel = ready.kernel ∙ sym (ap (λ c. c.kernel) g.anchor);
+      last = subst (λ ps. IsTrue (list_all (λ p. nat_le p.entry.stamp last) ps)) (sym whole) (all_append (λ p. nat_le p.entry.stamp last) (a.earlier ++ a.log) g.made old new);
+    }
+
+pub still_same : (labels labels' : Labels) (command : Command) (reply : Reply) (at at' : At) (first a a' : Agent)
+    → SameAgent first a → Comes labels labels' command reply at at' a a' → SameAgent first a'
+still_same labels labels' command reply at at' first a a' same came = record {
+  number = came.goes.number ∙ same.number;
+  anchor = came.goes.anchor ∙ same.anchor;
+  starts = came.goes.starts ∙ same.starts;
+  earlier = came.goes.earlier ∙ same.earlier;
+}
+
+-- states follow from starts
+pub begun_same : (a a' : Agent) → a'.starts ≡ a.starts → begun a' ≡ begun a
+begun_same a a' same =
+    let states : (ℕ → Option Start) → ℕ → Option State = λ s o. state_in (s o) in
+    ap states same
+
+-- what is told grows by what is done
+pub tells_none : (log : List Paired) (t : Option (ℕ → List Entry)) → log ≡ [] → TellsMore log t t
+unfolding on
+tells_none log None none = tt
+tells_none log (Some f) none = λ n. sym (append-nil (f n)) ∙ ap (λ ps. f n ++ on n (map (λ p. p.entry) ps)) (sym none)
+
+tells_parts : (first made : List Paired) (t u v : Option (ℕ → List Entry)) → TellsMore first t u → TellsMore made u v → TellsMore (first ++ made) t v
+tells_parts first made None None None h k = tt
+tells_parts first made None None (Some g) h k = absurd k
+tells_parts first made None (Some f) v h k = absurd h
+tells_parts first made (Some f) None v h k = absurd h
+tells_parts first made (Some f) (Some g) None h k = absurd k
+tells_parts first made (Some f) (Some g) (Some e) h k = λ n.
+    k n ∙ ap (λ es. es ++ on n (entries made)) (h n) ∙ append_assoc (f n) (on n (entries first)) (on n (entries made))
+    ∙ ap (λ es. f n ++ es) (sym (on_parts n (entries first) (entries made)) ∙ ap (on n) (sym (map-append (λ (p : Paired). p.entry) first made)))
+  where
+    entries : List Paired → List Entry
+    entries ps = map (λ p. p.entry) ps
+
+pub still_told : (labels labels' : Labels) (command : Command) (reply : Reply) (at at' : At) (t : Option (ℕ → List Entry)) (a a' : Agent)
+    → TellsMore a.log t a.told → Comes labels labels' command reply at at' a a' → TellsMore a'.log t a'.told
+still_told labels labels' command reply at at' t a a' told came =
+    subst (λ ps. TellsMore ps t a'.told) (sym came.goes.log) (tells_parts a.log came.goes.made t a.told a'.told told came.goes.told)
 
 -- one more command
-pub done_push : (commands : List Command) → (first : ℕ) → (labels after : List Labeled) → (before now : List Paired) → (command : Command) → (outcome : Outcome)
-    → HasDone commands first labels before
-    → option_map (λ made. deeds before ++ map (numbered (first + length commands)) made) (acts labels command outcome) ≡ Some (deeds now)
-    → after ≡ labels_after labels command outcome
-    → HasDone (commands ++ command ∷ []) first after now
-done_push commands first labels after before now command outcome h came bound =
-    let d : Done = record { command = command; outcome = outcome } in
-    let p : Progress = record { labels = labels; next = first + length commands; deeds = deeds before } in
-    let step : option_map (further p d) (acts labels command outcome) ≡ Some (record { labels = labels_after labels command outcome; next = first + length commands + 1; deeds = deeds now }) =
-    came_further p d (acts labels command outcome) (deeds now) came in
-    let count : first + length commands + 1 ≡ first + length (commands ++ command ∷ []) = omega (arith, length-append commands (command ∷ [])) in
-    let fit : Some (record { labels = labels_after labels command outcome; next = first + length commands + 1; deeds = deeds now })
-    ≡ Some (record { labels = after; next = first + length (commands ++ command ∷ []); deeds = deeds now }) =
-    ap (λ ls. Some (record { labels = ls; next = first + length commands + 1; deeds = deeds now })) (sym bound)
-    ∙ ap (λ n. Some (record { labels = after; next = n; deeds = deeds now })) count in
-    record {
-      dones = h.dones ++ d ∷ [];
-      in_order = map_push (λ (x : Done). x.command) h.dones d ∙ ap (λ cs. cs ++ command ∷ []) h.in_order;
-      progress = progress_push (Some (at_first first)) h.dones d ∙ ap (λ q. then_done q d) h.progress ∙ step ∙ fit;
+pub one_command : (commands : List Command) (labels_first : Labels) (at_first : At) (m : ℕ) (labels labels' : Labels) (command : Command) (reply : Reply) (at : At) (last : ℕ) (first a a' : Agent)
+    → SameAgent first a → slice_get commands m ≡ Some command → HasDone (begun first) commands labels_first at_first m labels a.log at
+    → Comes labels labels' command reply at (record at { last = last }) a a'
+    → HasDone (begun first) commands labels_first at_first (m + 1) labels' a'.log (next_at at last)
+unfolding HasDone
+one_command commands labels_first at_first m labels labels' command reply at last first a a' same is before came =
+    subst (λ n. HasDone (begun first) commands labels_first at_first n labels' a'.log (next_at at last)) more longer
+  where
+    more : suc m ≡ m + 1
+    more = omega arith
+
+    same_begun : begun a ≡ begun first
+    same_begun = begun_same first a same.starts
+
+    longer : HasDone (begun first) commands labels_first at_first (suc m) labels' a'.log (next_at at last)
+    longer = record {
+      labels_before = labels;
+      earlier = a.log;
+      at_before = at;
+      before = before;
+      command = command;
+      command_is = is;
+      outcome = came.outcome;
+      acts = came.sequence;
+      is_one = came.is_one;
+      made = came.goes.made;
+      log_is = came.goes.log;
+      done = subst (λ (b : ℕ → Option State). AreDone b at at.last (deeds_of came.sequence) came.goes.made last) same_begun came.goes.done;
+      at_is = refl;
+      labels_are = came.labels_are;
     }
 
 -- nothing is done yet
-pub none_done : (first : ℕ) → (labels : List Labeled) → (log : List Paired) → labels ≡ [] → log ≡ [] → HasDone [] first labels log
-unfolding progress_from deeds
-none_done first labels log k h =
-    let count : first ≡ first + 0 = omega arith in
-    record {
-      dones = [];
-      in_order = refl;
-      progress = ap (λ n. Some (record { labels = []; next = n; deeds = [] })) count
-          ∙ ap (λ (l : List Paired). Some (record { labels = []; next = first + 0; deeds = deeds l })) (sym h)
-          ∙ ap (λ (ls : List Labeled). Some (record { labels = ls; next = first + 0; deeds = deeds log })) (sym k);
-    }
+pub none_done : (begun : ℕ → Option State) (commands : List Command) (labels : Labels) (at : At) (log : List Paired) → log ≡ [] → HasDone begun commands labels at 0 labels log at
+unfolding HasDone
+none_done begun commands labels at log h = (refl, h, refl)
 
--- one more command of a list
-pub step_done : (commands : List Command) → (i first number : ℕ) → (labels after : List Labeled) → (before now : List Paired) → (command : Command) → (outcome : Outcome)
-    → i < length commands → command ≡ get_or commands i command → number ≡ first + i
-    → HasDone (take i commands) first labels before
-    → option_map (λ made. deeds before ++ map (numbered number) made) (acts labels command outcome) ≡ Some (deeds now)
-    → after ≡ labels_after labels command outcome
-    → HasDone (take (i + 1) commands) first after now
-step_done commands i first number labels after before now command outcome within is_at place h came bound =
-    let count : number ≡ first + length (take i commands) = omega (arith, length-take i commands) in
-    let came' : option_map (λ made. deeds before ++ map (numbered (first + length (take i commands))) made) (acts labels command outcome) ≡ Some (deeds now) =
-    subst (λ n. option_map (λ made. deeds before ++ map (numbered n) made) (acts labels command outcome) ≡ Some (deeds now)) count came in
-    let longer : take i commands ++ command ∷ [] ≡ take (i + 1) commands =
-    ap (λ c. take i commands ++ c ∷ []) is_at ∙ sym (take_more commands i command within) in
-    subst (λ cs. HasDone cs first after now) longer (done_push (take i commands) first labels after before now command outcome h came' bound)
+-- an item of a list
+pub item_at : {T : Type 0} (xs : List T) (i : ℕ) (x : T) → i < length xs → x ≡ get_or xs i x → slice_get xs i ≡ Some x
+item_at [] i x below is = absurd omega (arith, below)
+item_at (y ∷ ys) zero x below is = ap (λ z. Some z) (sym is)
+item_at (y ∷ ys) (suc i) x below is = item_at ys i x (omega (arith, below)) is

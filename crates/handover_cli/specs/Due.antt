@@ -1,25 +1,11 @@
--- What is due for some words, and what a run answers where nothing fails.
-use Rattle.std.specs.Prelude.{◌≡◌, ℕ, ◌<◌, ◌⊎◌, if◌then◌else◌, List, length, take, Option, Some, None, is_some, MatchOption}
+-- What was written of what is due where a write failed, and what a run answers where nothing fails.
+use Rattle.std.specs.Prelude.{◌≡◌, ℕ, ◌<◌, ◌⊎◌, if◌then◌else◌, List, length, take, Option, Some, None, is_some}
 use Rattle.ho_io.specs.Told.{behind}
-use Rattle.handover_cli.specs.Refusals.{refusal_of, usage_line}
-use Rattle.handover_cli.specs.Run.{IsLegalText}
+use Rattle.handover_cli.specs.Refusals.{refusal_of, usage_line, IsAccepted, IsRefusal}
+use Rattle.handover_cli.specs.Run.{OfScript, OnCold, WroteSoFar}
 use Rattle.handover_cli.specs.Words.{fits_run}
 use Rattle.handover_cli.specs.declared.run.Status.{Status}
 use Rattle.handover_cli.specs.declared.run.Status.TheVariants.{Done, Script, Memory}
-
--- the text that is due for a script of these bytes: the line of its refusal, or the text of a legal history of it
-abbrev pub IsDueOf : List ℕ → List ℕ → Type 0
-IsDueOf script_bytes text = MatchOption (refusal_of script_bytes) (IsLegalText script_bytes text) (λ line. text ≡ line)
-
--- the text that is due for a script, where the script is told
-abbrev pub IsDue : Option (List ℕ) → List ℕ → Type 0
-IsDue None text = Unit {0}
-IsDue (Some script_bytes) text = IsDueOf script_bytes text
-
--- the text that is due for the script of this name among what a host holds, or for words that fit nothing
-abbrev pub IsDueFor : (List ℕ → Option (List ℕ)) → Option (List ℕ) → List ℕ → Type 0
-IsDueFor holds None text = text ≡ usage_line
-IsDueFor holds (Some name) text = IsDue (holds name) text
 
 -- the output became longer by a front part of a text, and not by all of it
 pub record WroteFront (is_due : List ℕ → Type 0) (out_old out_new : Option (List ℕ)) : Type 0 where
@@ -28,6 +14,20 @@ pub record WroteFront (is_due : List ℕ → Type 0) (out_old out_new : Option (
   pub count : ℕ
   pub less : count < length text
   pub written : out_new ≡ behind out_old (take count text)
+
+-- a script that isn't refused was told, and the output became longer by entries that are legal so far
+pub record WroteFrontOfHistory (told out_old out_new : Option (List ℕ)) : Type 0 where
+  pub accepted : IsAccepted told
+  pub wrote : OfScript told (OnCold (λ start blocks. WroteSoFar start blocks out_old out_new))
+
+-- what was written of a script, where a write failed: of the line of its refusal, or of a history of it
+abbrev pub WritesPart : Option (List ℕ) → Option (List ℕ) → Option (List ℕ) → Type 0
+WritesPart told out_old out_new = WroteFront (IsRefusal told) out_old out_new ⊎ WroteFrontOfHistory told out_old out_new
+
+-- the same of the script of this name among what a host holds, or for words that fit nothing
+abbrev pub WritesPartFor : (List ℕ → Option (List ℕ)) → Option (List ℕ) → Option (List ℕ) → Option (List ℕ) → Type 0
+WritesPartFor holds None out_old out_new = WroteFront (λ text. text ≡ usage_line) out_old out_new
+WritesPartFor holds (Some name) out_old out_new = WritesPart (holds name) out_old out_new
 
 -- the status that is due for a script of these bytes
 abbrev pub due_status : List ℕ → Status

@@ -3,6 +3,5 @@ pub mod Due
 pub mod Refusals
 pub mod Rounds
 pub mod Run
-pub mod RunTold
 pub mod Words
 pub mod Works

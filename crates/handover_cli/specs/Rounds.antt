@@ -1,32 +1,62 @@
--- How far an agent came in its work, and what its work leaves.
-use Rattle.std.specs.Prelude.{◌≡◌, ℕ, ◌+◌, IsTrue, List, [], map, length, Some}
-use Rattle.std.specs.List.{list_all}
-use Rattle.ho_base.specs.ShapeRule.{Layout}
-use Rattle.ho_events.specs.History.{Paired, on, by, paired, is_run_of_object}
-use Rattle.ho_events.specs.Legal.{is_of_kernel, rises_from, are_stamped}
-use Rattle.ho_events.specs.Sequences.{Labeled, Done, deeds, at_first, progress_from}
+-- What an agent does that has a kernel for itself, and what a kernel is after entries.
+use Rattle.std.specs.Prelude.{◌≡◌, ◌≢◌, ℕ, max, List, [], length, slice_index_or, Option, Some}
+use Rattle.std.specs.FinMap as finmap
+use Rattle.ho_events.specs.History.{on, greatest_stamp, last_stamp}
 use Rattle.ho_events.specs.declared.command.Command.{Command}
 use Rattle.ho_events.specs.declared.entry.Entry.{Entry}
+use Rattle.ho_events.specs.declared.script.AgentWork.{AgentWork}
+use Rattle.ho_events.specs.declared.script.Block.{Block}
+use Rattle.ho_events.specs.declared.slip.At.{At}
+use Rattle.ho_world.specs.World.{State, World}
+use Rattle.ho_world.specs.Entries.{in_kernel, beginning}
+use Rattle.ho_world.specs.Legal.{kernel_due, labels_now}
+use Rattle.ho_world.specs.Logs.{Paired, HasDone, grown, paired_on}
+use Rattle.ho_world.specs.Sequences.{Labels}
+use Rattle.machine_core.specs.Agents.{Agent}
+use Rattle.machine_core.specs.LabelsShown.{agent_count}
+use Rattle.machine_core.specs.Kernels.{KernelValue, IsRunAt, starts_in, begun_in, histories_in}
 
--- an agent has done these commands, numbered from the first on: its log is one whole sequence a command and
--- nothing else, and its labels are those that the commands bound
-pub record HasDone (commands : List Command) (first : ℕ) (labels : List Labeled) (log : List Paired) : Type 0 where
-  pub dones : List Done
-  pub in_order : map (λ d. d.command) dones ≡ commands
-  pub progress : progress_from (Some (at_first first)) dones
-      ≡ Some (record { labels = labels; next = first + length commands; deeds = deeds log })
+-- an agent is the same as before, but for its log and its room, and for what is told of the objects
+pub record SameAgent (a a' : Agent) : Type 0 where
+  pub number : a'.number ≡ a.number
+  pub anchor : a'.anchor ≡ a.anchor
+  pub starts : a'.starts ≡ a.starts
+  pub earlier : a'.earlier ≡ a.earlier
 
--- an agent has done these commands, with whatever labels
-pub record HaveDone (commands : List Command) (first : ℕ) (log : List Paired) : Type 0 where
-  pub labels : List Labeled
-  pub done : HasDone commands first labels log
+-- An agent has done all these commands, one after another, from where `first` says: its log has whole sequences of
+-- them, in order, and nothing else. Its labels were `labels`, and are `later` now.
+pub record DidAll (begun : ℕ → Option State) (commands : List Command) (labels : Labels) (first : At) (later : Labels) (log : List Paired) : Type 0 where
+  pub last : At
+  pub done : HasDone begun commands labels first (length commands) later log last
 
--- these entries are all that one agent did in a kernel that began cold: whole sequences of its commands, with
--- their stamps, and on each object a run of its steps
-pub record IsWorkOf (agent kernel : ℕ) (shape : Layout) (commands : List Command) (first : ℕ) (entries : List Entry) : Type 0 where
-  pub done : HaveDone commands first (paired entries)
-  pub agents : by agent entries ≡ entries
-  pub kernels : IsTrue (list_all (is_of_kernel kernel) entries)
-  pub stamped : IsTrue (are_stamped [] [] entries)
-  pub rising : IsTrue (rises_from 0 0 entries)
-  pub objects : (o : ℕ) → IsTrue (is_run_of_object shape o (on o entries))
+-- the labels of an agent in a kernel at rest
+abbrev pub labels_at : KernelValue → ℕ → Labels
+labels_at kernel a = slice_index_or kernel.labels a finmap.empty
+
+-- where an agent's work on a kernel begins: after the greatest stamp
+abbrev pub begins_at : KernelValue → AgentWork → At
+begins_at kernel work = record { kernel = kernel.number; agent = work.agent; command = work.first; last = kernel.base }
+
+-- An agent has done all its work on a kernel, alone, and these are its entries. Each object's history is longer by
+-- the entries on it and still a run of its steps, and of the labels only the agent's own have changed.
+pub record WorkedAlone (kernel : KernelValue) (work : AgentWork) (kernel' : KernelValue) (entries : List Entry) : Type 0 where
+  pub number : kernel'.number ≡ kernel.number
+  pub starts : starts_in kernel'.objects ≡ starts_in kernel.objects
+  pub histories : histories_in kernel'.objects ≡ grown (histories_in kernel.objects) entries
+  pub runs : (n : ℕ) → IsRunAt (starts_in kernel'.objects n) (histories_in kernel'.objects n)
+  pub base : kernel'.base ≡ max kernel.base (last_stamp entries)
+  pub others : (a : ℕ) → a ≢ work.agent.0 → labels_at kernel' a ≡ labels_at kernel a
+  pub lists : length kernel'.labels ≡ length kernel.labels
+  pub did : DidAll (begun_in kernel.objects) work.commands (labels_at kernel work.agent.0) (begins_at kernel work)
+      (labels_at kernel' work.agent.0) (paired_on (begun_in kernel.objects) (histories_in kernel.objects) [] entries)
+
+-- A kernel is as the entries `es` say: it is kernel k, its objects began as that kernel does, and their histories, the
+-- greatest stamp and each agent's labels are those of the entries.
+pub record IsAfter (start : World) (blocks : List Block) (es : List Entry) (k : ℕ) (kernel : KernelValue) : Type 0 where
+  pub number : kernel.number ≡ k
+  pub due : kernel_due es ≡ k
+  pub begun : (o : ℕ) (s : State) → begun_in kernel.objects o ≡ Some s → (beginning start es k).at o ≡ s
+  pub histories : histories_in kernel.objects ≡ (λ o. on o (in_kernel k es))
+  pub base : kernel.base ≡ greatest_stamp (in_kernel k es)
+  pub labels : (a : ℕ) → labels_at kernel a ≡ labels_now blocks k a es
+  pub lists : length kernel.labels ≡ agent_count

@@ -1,24 +1,26 @@
 //! Runs a script: reads it, does its work and writes its history.
 
-ghost use Rattle.std.specs.Prelude.{◌≡◌, ◌⊎◌, IsTrue, IfOk, IfErr, IfSome, MatchOption, List, option_map, map, length, nat_le, is_some, ◌<◌, ◌≤◌, Some, None, string_bytes};
+ghost use Rattle.std.specs.Prelude.{◌≡◌, ◌⊎◌, IsTrue, IfOk, IfErr, IfSome, MatchOption, List, [], option_map, map, length, ◌<◌, ◌≤◌, is_some, Some, None, string_bytes};
 ghost use Rattle.ho_io.specs.Told.{Rose, behind, with_item, IsOneOf};
 ghost use Rattle.ho_io.specs.declared.host.Way.TheVariants.{Open};
-ghost use Rattle.std.specs.List.{list_all};
-ghost use Rattle.ho_events.specs.Script.Rules.{is_built_script, is_numbered, is_single_block, is_single_script, is_small_script, sections_of, total_commands};
-ghost use Rattle.handover_cli.specs.RunTold.{TellsOf};
-ghost use Rattle.handover_cli.specs.Run.{IsHistory, IsLegalText, WritesLegal, RanLegally, WroteRefusal, RanRefused};
-ghost use Rattle.handover_cli.specs.Refusals.{usage_line, line_text, too_long_text, IsAccepted, IsRefusal};
-ghost use Rattle.handover_cli.specs.Due.{IsDue, IsDueFor, WroteFront, Completes};
+ghost use Rattle.ho_events.specs.Script.Rules.{is_built_script, is_numbered, is_single_script, is_small_script};
+ghost use Rattle.ho_events.specs.Text.{text_of};
+ghost use Rattle.ho_world.specs.World.{cold};
+ghost use Rattle.machine_core.specs.LabelsShown.{agent_count};
+ghost use Rattle.handover_cli.specs.Run.{OnCold, WroteAll, WroteBlocks, WroteSoFar, WritesLegal, WritesBlocks, RanLegally, RanShort, WroteRefusal, RanRefused};
+ghost use Rattle.handover_cli.specs.Refusals.{usage_line, line_text, reason_word, too_long_text, IsAccepted};
+ghost use Rattle.handover_cli.specs.Due.{WroteFront, WritesPart, WritesPartFor, Completes};
 ghost use Rattle.handover_cli.specs.Asked.{AsksOnly, Opened};
+ghost use Rattle.handover_cli.specs.Rounds.{IsAfter};
 ghost use Rattle.handover_cli.specs.Words.{fits_run, is_file_name};
-ghost use Rattle.handover_cli.specs.Works.{IsOnlyWork};
+ghost use Rattle.handover_cli.specs.Works.{CanDo, CanRun, DidBlock};
 
-use crate::agent_runner::run_alone;
-use ho_base::limits::{COMMANDS, SCRIPT_BYTES};
+use crate::agent_runner::{end_kernel, run_alone};
+use ho_base::limits::SCRIPT_BYTES;
 use ho_base::numbers::NoMemory;
 use ho_events::entry::Entry;
-use ho_events::script::{AgentWork, Block, Script};
-use ho_events::slip::At;
+use ho_events::line::Reason;
+use ho_events::script::{Block, Script};
 use ho_events::text::text;
 use ho_io::{Host, ReadError, put_all, read_all};
 use machine_core::Kernel;
@@ -46,33 +48,105 @@ pub enum Status {
     WriteFault,
 }
 
-/// The only work of a script, if it has one.
-fn only_work(blocks: &[Block]) -> Option<&AgentWork>
-    requires few { IsTrue (nat_le (length blocks.now) 1) }
-    requires single { IsTrue (list_all is_single_block blocks.now) }
-    requires small { total_commands (sections_of blocks.now) ≤ COMMANDS }
-    ensures only { IsOnlyWork blocks.now (option_map (λ w. w.now) result) }
-    ensures few { IfSome result (λ w. length w.now.commands ≤ COMMANDS) }
-{
-    match blocks {
-        [] => None,
-        [Block::Round(works), ..] => works.as_slice().first(),
-        _ => unreachable!(),
-    }
-}
-
-/// The history of a script, on a machine of its shape that begins cold.
+/// Does a block on a kernel. It gives the kernel after it, and the block's entries.
 ///
 /// # Errors
 ///
-/// [`NoMemory`] where memory of the host was wanted.
-fn history(alloc: Global, script: Script) -> Result<Vec<Entry>, NoMemory>
+/// [`NoMemory`] where memory of the host was wanted. The kernel's memory is given back then.
+fn run_block(alloc: Global, kernel: Kernel, block: &Block) -> Result<(Kernel, Vec<Entry>), NoMemory>
+    requires lists { length kernel.labels ≡ agent_count }
+    requires block { CanDo block.now }
+    ensures { IfOk result (λ r. DidBlock block.now kernel r.0 r.1.items) }
+{
+    let Block::Round(works) = block else {
+        unreachable!()
+    };
+    match works.as_slice() {
+        [] => Ok((kernel, Vec::new(alloc))),
+        [work, ..] => run_alone(alloc, kernel, work),
+    }
+}
+
+/// What came of a text: all of it was written, or memory was wanted before it, or a write failed.
+enum Written {
+    All,
+    Memory,
+    Fault,
+}
+
+/// Writes the text of some entries.
+fn write_entries<H: Host>(alloc: Global, entries: &[Entry], host: &mut H) -> Written
+    ensures all { result ≡ Written.All → H.out host.new ≡ behind (H.out host.old) (text_of entries.now) }
+    ensures silent { result ≡ Written.Memory → H.out host.new ≡ H.out host.old }
+    ensures part { result ≡ Written.Fault → WroteFront (λ text. text ≡ text_of entries.now) (H.out host.old) (H.out host.new) }
+    ensures cause { result ≡ Written.Fault → Rose (H.write_faults host.old) (H.write_faults host.new) }
+    ensures counts { H.write_faults host.old ≤ H.write_faults host.new }
+    ensures asked_kept { H.asked host.new ≡ H.asked host.old }
+    ensures made_kept { H.made host.new ≡ H.made host.old }
+    ensures sinks_kept { H.sinks_out host.new ≡ H.sinks_out host.old }
+{
+    match text(alloc, entries) {
+        Ok(text) => match put_all(host, text.as_slice()) {
+            Ok(()) => Written::All,
+            Err(_) => Written::Fault,
+        },
+        Err(_) => Written::Memory,
+    }
+}
+
+/// Does the blocks of a script, from a kernel on that begins cold, and writes each one's entries when it is done.
+fn run_blocks<H: Host>(alloc: Global, kernel: Kernel, blocks: &[Block], host: &mut H) -> Status
+    requires blocks { CanRun blocks.now }
+    requires cold { IsAfter (cold kernel.shape) blocks.now [] 0 kernel }
+    ensures legal { result ≡ Status.Done → WroteAll (cold kernel.shape) blocks.now (H.out host.old) (H.out host.new) }
+    ensures memory { result ≡ Status.Memory → WroteBlocks (cold kernel.shape) blocks.now (H.out host.old) (H.out host.new) }
+    ensures part { result ≡ Status.WriteFault → WroteSoFar (cold kernel.shape) blocks.now (H.out host.old) (H.out host.new) }
+    ensures not_script { result ≡ Status.Script → ⊥ }
+    ensures not_usage { result ≡ Status.Usage → ⊥ }
+    ensures not_read { result ≡ Status.ReadFault → ⊥ }
+    ensures write_cause { result ≡ Status.WriteFault → Rose (H.write_faults host.old) (H.write_faults host.new) }
+    ensures asked_kept { H.asked host.new ≡ H.asked host.old }
+    ensures made_kept { H.made host.new ≡ H.made host.old }
+    ensures sinks_kept { H.sinks_out host.new ≡ H.sinks_out host.old }
+{
+    let mut kernel = kernel;
+    for block in blocks {
+        match run_block(alloc, kernel, block) {
+            Ok((next, entries)) => match write_entries(alloc, entries.as_slice(), host) {
+                Written::All => kernel = next,
+                Written::Memory => {
+                    end_kernel(next, Vec::new(alloc));
+                    return Status::Memory;
+                }
+                Written::Fault => {
+                    end_kernel(next, Vec::new(alloc));
+                    return Status::WriteFault;
+                }
+            },
+            Err(NoMemory) => return Status::Memory,
+        }
+    }
+    end_kernel(kernel, Vec::new(alloc));
+    Status::Done
+}
+
+/// Does a script on a machine of its shape that begins cold, and writes its history.
+fn run_history<H: Host>(alloc: Global, script: Script, host: &mut H) -> Status
     requires shaped { IsTrue (is_some script.shape) }
     requires built { IsTrue (is_built_script script) }
     requires numbered { IsTrue (is_numbered script) }
     requires single { IsTrue (is_single_script script) }
     requires small { IsTrue (is_small_script script) }
-    ensures { IfOk result (λ entries. IsHistory script entries.items) }
+    ensures legal { result ≡ Status.Done → OnCold (λ start blocks. WroteAll start blocks (H.out host.old) (H.out host.new)) script }
+    ensures memory { result ≡ Status.Memory → OnCold (λ start blocks. WroteBlocks start blocks (H.out host.old) (H.out host.new)) script }
+    ensures part { result ≡ Status.WriteFault → OnCold (λ start blocks. WroteSoFar start blocks (H.out host.old) (H.out host.new)) script }
+    ensures not_script { result ≡ Status.Script → ⊥ }
+    ensures not_usage { result ≡ Status.Usage → ⊥ }
+    ensures not_read { result ≡ Status.ReadFault → ⊥ }
+    ensures write_cause { result ≡ Status.WriteFault → Rose (H.write_faults host.old) (H.write_faults host.new) }
+    ensures asked_kept { H.asked host.new ≡ H.asked host.old }
+    ensures made_kept { H.made host.new ≡ H.made host.old }
+    ensures sinks_kept { H.sinks_out host.new ≡ H.sinks_out host.old }
 {
     let Script {
         shape,
@@ -81,49 +155,38 @@ fn history(alloc: Global, script: Script) -> Result<Vec<Entry>, NoMemory>
         blocks,
     } = script;
     let Some(shape) = shape else { unreachable!() };
-    let Some(work) = only_work(blocks.as_slice()) else {
-        return Ok(Vec::new(alloc));
-    };
-    let kernel = Kernel::cold(alloc, shape)?;
-    let at = At {
-        kernel: 0,
-        agent: work.agent,
-        command: work.first,
-        last: 0,
-    };
-    run_alone(alloc, kernel, at, work.commands.as_slice())
-}
-
-/// What came of some bytes: the text of their history, the first line that is refused, or want of memory.
-enum Told {
-    Text(Vec<u8>),
-    Refused(u32),
-    Memory,
-}
-
-/// The text of the history of the script that some bytes spell.
-fn history_text(alloc: Global, bytes: &[u8]) -> Told
-    requires { length bytes.now < u32.MAX }
-    ensures { TellsOf bytes.now result }
-{
-    let script = match read(alloc, bytes, true) {
-        Ok(script) => script,
-        Err(ScriptError::Bad { line, reason: _ }) => return Told::Refused(line),
-        Err(ScriptError::Memory) => return Told::Memory,
-    };
-    match history(alloc, script) {
-        Ok(entries) => match text(alloc, entries.as_slice()) {
-            Ok(text) => Told::Text(text),
-            Err(_) => Told::Memory,
-        },
-        Err(_) => Told::Memory,
+    match Kernel::cold(alloc, shape) {
+        Ok(kernel) => run_blocks(alloc, kernel, blocks.as_slice(), host),
+        Err(NoMemory) => Status::Memory,
     }
 }
 
-/// Writes which line of a script is refused.
-fn refuse_line<H: Host>(alloc: Global, host: &mut H, line: u32) -> Status
-    ensures whole { result ≡ Status.Script → H.out host.new ≡ behind (H.out host.old) (line_text line) }
-    ensures part { result ≡ Status.WriteFault → WroteFront (λ text. text ≡ line_text line) (H.out host.old) (H.out host.new) }
+/// The word that tells a reason.
+fn word_of(reason: Reason) -> &'static str
+    ensures { result.now ≡ reason_word reason }
+{
+    match reason {
+        Reason::Byte => "byte",
+        Reason::Word => "word",
+        Reason::Later => "later",
+        Reason::Count => "count",
+        Reason::Number => "number",
+        Reason::Name => "name",
+        Reason::Hex => "hex",
+        Reason::Kind => "kind",
+        Reason::Op => "op",
+        Reason::Place => "place",
+        Reason::Shape => "shape",
+        Reason::Label => "label",
+        Reason::Limit => "limit",
+        Reason::End => "end",
+    }
+}
+
+/// Writes which line of a script is refused, and why.
+fn refuse_line<H: Host>(alloc: Global, host: &mut H, line: u32, reason: Reason) -> Status
+    ensures whole { result ≡ Status.Script → H.out host.new ≡ behind (H.out host.old) (line_text line reason) }
+    ensures part { result ≡ Status.WriteFault → WroteFront (λ text. text ≡ line_text line reason) (H.out host.old) (H.out host.new) }
     ensures silent { result ≡ Status.Memory → H.out host.new ≡ H.out host.old }
     ensures not_done { result ≡ Status.Done → ⊥ }
     ensures not_usage { result ≡ Status.Usage → ⊥ }
@@ -133,7 +196,8 @@ fn refuse_line<H: Host>(alloc: Global, host: &mut H, line: u32) -> Status
     ensures made_kept { H.made host.new ≡ H.made host.old }
     ensures sinks_kept { H.sinks_out host.new ≡ H.sinks_out host.old }
 {
-    match format!(in alloc; "script refused: line {line}: later\n") {
+    let word = word_of(reason);
+    match format!(in alloc; "script refused: line {line}: {word}\n") {
         Ok(text) => match put_all(host, text.as_bytes()) {
             Ok(()) => Status::Script,
             Err(_) => Status::WriteFault,
@@ -148,8 +212,8 @@ fn run_bytes<H: Host>(alloc: Global, bytes: &[u8], host: &mut H) -> Status
     ensures legal { result ≡ Status.Done → WritesLegal (Some bytes.now) (H.out host.old) (H.out host.new) }
     ensures accepted { result ≡ Status.Done → IsAccepted (Some bytes.now) }
     ensures refused { result ≡ Status.Script → WroteRefusal (Some bytes.now) (H.out host.old) (H.out host.new) }
-    ensures part { result ≡ Status.WriteFault → WroteFront (IsDue (Some bytes.now)) (H.out host.old) (H.out host.new) }
-    ensures silent { result ≡ Status.Memory → H.out host.new ≡ H.out host.old }
+    ensures part { result ≡ Status.WriteFault → WritesPart (Some bytes.now) (H.out host.old) (H.out host.new) }
+    ensures memory { result ≡ Status.Memory → WritesBlocks (Some bytes.now) (H.out host.old) (H.out host.new) }
     ensures not_usage { result ≡ Status.Usage → ⊥ }
     ensures not_read { result ≡ Status.ReadFault → ⊥ }
     ensures write_cause { result ≡ Status.WriteFault → Rose (H.write_faults host.old) (H.write_faults host.new) }
@@ -157,13 +221,10 @@ fn run_bytes<H: Host>(alloc: Global, bytes: &[u8], host: &mut H) -> Status
     ensures made_kept { H.made host.new ≡ H.made host.old }
     ensures sinks_kept { H.sinks_out host.new ≡ H.sinks_out host.old }
 {
-    match history_text(alloc, bytes) {
-        Told::Text(text) => match put_all(host, text.as_slice()) {
-            Ok(()) => Status::Done,
-            Err(_) => Status::WriteFault,
-        },
-        Told::Refused(line) => refuse_line(alloc, host, line),
-        Told::Memory => Status::Memory,
+    match read(alloc, bytes, true) {
+        Ok(script) => run_history(alloc, script, host),
+        Err(ScriptError::Bad { line, reason }) => refuse_line(alloc, host, line, reason),
+        Err(ScriptError::Memory) => Status::Memory,
     }
 }
 
@@ -188,8 +249,8 @@ fn run_script<H: Host>(alloc: Global, name: &str, host: &mut H) -> Status
     ensures legal { result ≡ Status.Done → WritesLegal (H.holds host.old name.now) (H.out host.old) (H.out host.new) }
     ensures accepted { result ≡ Status.Done → IsAccepted (H.holds host.old name.now) }
     ensures refused { result ≡ Status.Script → WroteRefusal (H.holds host.old name.now) (H.out host.old) (H.out host.new) }
-    ensures part { result ≡ Status.WriteFault → WroteFront (IsDue (H.holds host.old name.now)) (H.out host.old) (H.out host.new) }
-    ensures silent { result ≡ Status.Memory → H.out host.new ≡ H.out host.old }
+    ensures part { result ≡ Status.WriteFault → WritesPart (H.holds host.old name.now) (H.out host.old) (H.out host.new) }
+    ensures memory { result ≡ Status.Memory → WritesBlocks (H.holds host.old name.now) (H.out host.old) (H.out host.new) }
     ensures unread { result ≡ Status.ReadFault → H.out host.new ≡ H.out host.old }
     ensures not_usage { result ≡ Status.Usage → ⊥ }
     ensures read_cause { result ≡ Status.ReadFault → Rose (H.read_faults host.old) (H.read_faults host.new) }
@@ -246,17 +307,19 @@ fn script_name(words: &[String]) -> Option<&str>
 /// tells its bytes, [`Status::Done`] says that what came behind the output is the text of a legal history of
 /// the script, and [`Status::Script`] that it is the line of the script's refusal: it has more bytes than a
 /// script may have, or this line of it is the first that is refused. [`Status::ReadFault`] and
-/// [`Status::WriteFault`] come only where the host's count of such faults rose; nothing came behind the output
-/// then, or a front part of what was due. [`Status::Memory`] is for want of memory; nothing was written then.
+/// [`Status::WriteFault`] come only where the host's count of such faults rose. Nothing came behind the output where
+/// reading failed; where writing failed, a front part of what was due: whole lines whose entries are legal so far, and
+/// of the line of an entry that may come next not all. [`Status::Memory`] is for want of memory; what came behind the
+/// output then is exactly the text of the blocks that were done.
 pub fn run<H: Host>(alloc: Global, words: &[String], host: &mut H) -> Status
     ensures legal { result ≡ Status.Done → RanLegally (map string_bytes words.now) (H.holds host.old) (H.out host.old) (H.out host.new) }
     ensures refused { result ≡ Status.Script → RanRefused (map string_bytes words.now) (H.holds host.old) (H.out host.old) (H.out host.new) }
     ensures usage { result ≡ Status.Usage → fits_run (map string_bytes words.now) ≡ None }
     ensures usage_told { result ≡ Status.Usage → H.out host.new ≡ behind (H.out host.old) usage_line }
     ensures unfit { fits_run (map string_bytes words.now) ≡ None → IsOneOf Status.Usage Status.WriteFault result }
-    ensures memory { result ≡ Status.Memory → H.out host.new ≡ H.out host.old }
+    ensures memory { result ≡ Status.Memory → RanShort (map string_bytes words.now) (H.holds host.old) (H.out host.old) (H.out host.new) }
     ensures unread { result ≡ Status.ReadFault → H.out host.new ≡ H.out host.old }
-    ensures part { result ≡ Status.WriteFault → WroteFront (IsDueFor (H.holds host.old) (fits_run (map string_bytes words.now))) (H.out host.old) (H.out host.new) }
+    ensures part { result ≡ Status.WriteFault → WritesPartFor (H.holds host.old) (fits_run (map string_bytes words.now)) (H.out host.old) (H.out host.new) }
     ensures read_cause { result ≡ Status.ReadFault → Rose (H.read_faults host.old) (H.read_faults host.new) }
     ensures write_cause { result ≡ Status.WriteFault → Rose (H.write_faults host.old) (H.write_faults host.new) }
     ensures complete { Completes (map string_bytes words.now) (H.holds host.old) (Rose (H.read_faults host.old) (H.read_faults host.new)) (Rose (H.write_faults host.old) (H.write_faults host.new)) result }

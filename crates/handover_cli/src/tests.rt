@@ -123,7 +123,7 @@ fn answers_with_a_status(rt: HostRuntime) -> Result<(), Fail> {
             Status::Script,
             b"script refused: line 10: later\n",
         ),
-        (b"", Status::Script, b"script refused: line 1: later\n"),
+        (b"", Status::Script, b"script refused: line 1: end\n"),
         (b"machine 64\nscratch 1 8\n", Status::Done, b""),
     ];
     for (script, status, out) in cases {

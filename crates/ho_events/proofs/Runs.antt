@@ -3,7 +3,7 @@ use Rattle.std.proofs.Common.{◌≡◌, ℕ, ◌+◌, ◌-◌, ◌<◌, ◌≤�
 use Rattle.std.specs.Prelude.{Option, None, Some}
 use Rattle.std.proofs.lemmas.Grind.{common_steps}
 use Rattle.std.proofs.lemmas.List.{append-nil}
-use Rattle.ho_events.specs.History.{then_entry, run_from, on, by, is_on, at_place, last_stamp_from, last_stamp, greatest_stamp, Paired, paired_after, paired}
+use Rattle.ho_events.specs.History.{then_entry, run_from, on, is_on, last_stamp_from}
 use Rattle.ho_events.specs.declared.entry.Entry.{Entry}
 use Rattle.ho_events.specs.declared.event.Event.{Event}
 use Rattle.ho_events.specs.declared.reply.Reply.{Reply}
@@ -45,12 +45,3 @@ on_push o es e h = grind (arith, common_steps)
 pub on_skip : (o : ℕ) → (es : List Entry) → (e : Entry) → is_on o e.object ≡ false → on o (es ++ e ∷ []) ≡ on o es
 unfolding on
 on_skip o es e h = grind (arith, common_steps)
-
--- the last entry is paired with the history that the entries before it leave its object
-pub paired_push : (seen es : List Entry) → (e : Entry) → paired_after seen (es ++ e ∷ []) ≡ paired_after seen es ++ (record { before = at_place e.object (seen ++ es); entry = e }) ∷ []
-unfolding paired_after
-paired_push seen [] e = ap (λ before. (record { before = at_place e.object before; entry = e }) ∷ []) (sym (append-nil seen))
-paired_push seen (d ∷ es) e =
-    let rest : Paired = record { before = at_place d.object seen; entry = d } in
-    ap (λ more. rest ∷ more) (paired_push (seen ++ d ∷ []) es e
-    ∙ ap (λ before. paired_after (seen ++ d ∷ []) es ++ (record { before = at_place e.object before; entry = e }) ∷ []) (append_assoc seen (d ∷ []) es))

@@ -103,10 +103,6 @@ cut_runs f size = map (λ e. e.1) (filter (λ e. nat_le (pieces size (index_byte
 abbrev pub left_runs : FileState → ℕ → finmap.FinMap nat_cmp ℕ
 left_runs f size = finmap.retain_keys f.runs (λ i. nat_lt i (pieces size (index_bytes f)))
 
--- what may hold a file goes; where nothing holds it any more, it is absent
-abbrev pub released : FileState → Option FileState
-released f = (if f.opened || f.pin || f.hold then Some f else None)
-
 -- the file when it has all its runs: where no session has it
 abbrev pub pin_step : FileState → List Pfn → Reply → Option (Option FileState)
 pin_step f fills NotFinished = only (no_runs fills && f.hold) (Some f)

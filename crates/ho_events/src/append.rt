@@ -3,7 +3,7 @@
 ghost use Rattle.std.specs.Prelude.{◌≡◌, ◌+◌, ◌<◌, ◌^◌, ◌++◌, ◌∷◌, [], vec_len, vec_capacity};
 ghost use Rattle.ho_events.specs.History.{last_stamp};
 ghost use Rattle.ho_events.specs.PlainTurns.{EventIsPlain, ReplyIsPlain};
-ghost use Rattle.ho_events.specs.Sequences.{object_at};
+ghost use Rattle.ho_events.specs.Places.{object_at};
 ghost use Rattle.ho_events.specs.Slips.{HasRoomFor, HasReplyRoomFor, entry_at};
 
 use crate::chronicle::last_stamp_of;

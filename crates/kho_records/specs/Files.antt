@@ -1,8 +1,8 @@
 -- Files as the program reads them.
-use Rattle.std.specs.Prelude.{◌≡◌, ℕ, List, Result, Ok, Err}
+use Rattle.std.specs.Prelude.{◌≡◌, ℕ, List, map, Result, Ok, Err}
 use Rattle.kho_records.specs.Ram.{Ram}
 use Rattle.kho_records.specs.Sheets.{FileRecord}
-use Rattle.kho_records.specs.Reading.{file_at}
+use Rattle.kho_records.specs.Reading.{file_at, each_item}
 use Rattle.kho_records.specs.Slots.{file_view}
 use Rattle.kho_records.specs.Lists.{sheet_views}
 use Rattle.kho_records.specs.declared.slot_reading.ReadFile.{ReadFile}
@@ -23,3 +23,8 @@ file_record f = record {
 abbrev pub TellsFile : Ram → List ℕ → List ℕ → ReadFile → Result FileRead ℕ → Type 0
 TellsFile ram old new slot (Ok f) = file_at ram old (file_view slot) ≡ Ok (file_record f, new)
 TellsFile ram old new slot (Err p) = file_at ram old (file_view slot) ≡ Err p
+
+-- several files were read in turn, or the first number that breaks a rule
+abbrev pub ToldFiles : {X : Type 0} → (X → List FileRead) → Ram → List ℕ → List ℕ → List ReadFile → Result X ℕ → Type 0
+ToldFiles files ram old new slots (Ok x) = each_item (file_at ram) old (map file_view slots) ≡ Ok (map file_record (files x), new)
+ToldFiles files ram old new slots (Err p) = each_item (file_at ram) old (map file_view slots) ≡ Err p

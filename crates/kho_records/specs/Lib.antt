@@ -14,3 +14,9 @@ pub mod Slots
 pub mod Lists
 pub mod Fronts
 pub mod Files
+pub mod Writing
+pub mod Written
+pub mod Sessions
+pub mod TreeRead
+pub mod Entry
+pub mod Bounds

@@ -116,7 +116,7 @@ fn session_frames(session: &CarriedSession) -> u32
 }
 
 /// The list frames of a file.
-fn list_frames(file: &CarriedFile) -> u32
+pub(crate) fn list_frames(file: &CarriedFile) -> u32
     requires { length file.now.runs ≤ MAX_FRAMES }
     ensures value { result ≡ listed_in file.now }
     ensures few { result ≤ 33 }

@@ -1,10 +1,11 @@
 //! The files of a session with their list frames, read from any bytes.
 
 ghost use Rattle.std.specs.Prelude.{◌≡◌, ◌≤◌, IfOk, length};
+ghost use Rattle.std.specs.List.{All};
 ghost use Rattle.ho_base.specs.declared.limits.TheConstants.{MAX_ORDER};
 ghost use Rattle.phys_frames.specs.Memory.{AllHome};
 ghost use Rattle.kho_records.specs.Sheeted.{ram_of};
-ghost use Rattle.kho_records.specs.Files.{TellsFile};
+ghost use Rattle.kho_records.specs.Files.{TellsFile, ToldFiles};
 
 use crate::lists::{ListSheet, list_chain};
 use crate::seen::Seen;
@@ -54,4 +55,29 @@ pub fn read_file(
         Ok(lists) => Ok(Ok(FileRead { slot, lists })),
         Err(at) => Ok(Err(at)),
     }
+}
+
+/// Reads the list frames of several files in turn, and notes each in `seen`.
+///
+/// `Ok(Err(at))`: `at` is the first number that breaks a rule, as in [`read_file`]. `Err`: out of memory.
+pub fn read_files(
+    alloc: Global,
+    frames: &Frames,
+    seen: &mut Seen,
+    slots: &[ReadFile],
+) -> Result<Result<Vec<FileRead>, u64>, AllocError>
+    requires home { AllHome frames.now }
+    requires orders { All (λ f. f.order ≤ MAX_ORDER) slots.now }
+    requires count { seen.old.count ≡ length frames.now.pages }
+    ensures count { seen.new.count ≡ seen.old.count }
+    ensures read { IfOk result (λ r. ToldFiles (λ v. v.items) (ram_of frames.now) seen.old.numbers seen.new.numbers slots.now r) }
+{
+    let mut files = Vec::new(alloc);
+    for slot in slots {
+        match read_file(alloc, frames, seen, *slot)? {
+            Ok(file) => files.push(file)?,
+            Err(at) => return Ok(Err(at)),
+        }
+    }
+    Ok(Ok(files))
 }

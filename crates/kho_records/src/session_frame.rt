@@ -1,6 +1,6 @@
-//! Session and file frames, read from any bytes. In version 1 no other frame follows one.
+//! Session frames, read from any bytes. In version 1 no other frame follows one.
 
-ghost use Rattle.std.specs.Prelude.{◌≡◌, ◌*◌, ◌≤◌, IfOk, length, map};
+ghost use Rattle.std.specs.Prelude.{◌≡◌, ◌*◌, ◌<◌, ◌≤◌, IfOk, IfSome, length, map};
 ghost use Rattle.ho_base.specs.declared.limits.TheConstants.{PAGE_BYTES};
 ghost use Rattle.phys_frames.specs.Memory.{AllHome};
 ghost use Rattle.kho_records.specs.Rules.{bytes_before};
@@ -17,10 +17,10 @@ use phys_frames::Frames;
 use std::alloc::{AllocError, Global};
 
 /// Where the slots of a frame begin.
-const SLOTS_AT: usize = 128;
+pub(crate) const SLOTS_AT: usize = 128;
 
 /// Whether no frame follows, and the bytes before the slots that have no meaning are zero.
-fn has_head(page: &[u8]) -> bool
+pub(crate) fn has_head(page: &[u8]) -> bool
     requires { length page.now ≡ PAGE_BYTES }
     ensures { result ≡ head_rule page.now }
 {
@@ -86,7 +86,8 @@ pub fn session_front(
     at: u64,
 ) -> Result<Option<Vec<ReadSession>>, AllocError>
     requires home { AllHome frames.now }
-    ensures { IfOk result (λ r. Gives (λ v. map session_view v.items) r (session_front_at (ram_of frames.now) at)) }
+    ensures front { IfOk result (λ r. Gives (λ v. map session_view v.items) r (session_front_at (ram_of frames.now) at)) }
+    ensures within { IfOk result (λ r. IfSome r (λ v. at < length frames.now.pages)) }
 {
     if !is_frame_number(frames, at) {
         return Ok(None);

@@ -1,6 +1,6 @@
 //! Slots of session and file frames, read from any bytes.
 
-ghost use Rattle.std.specs.Prelude.{◌≡◌, ◌*◌, ◌^◌, ◌==◌, ◌≤◌, length, take};
+ghost use Rattle.std.specs.Prelude.{◌≡◌, ◌*◌, ◌^◌, ◌==◌, ◌≤◌, IfSome, IsTrue, length, take};
 ghost use Rattle.ho_events.specs.Lists.{pieces};
 ghost use Rattle.kho_records.specs.Rules.{has_first as first_rule, is_of_kind as kind_rule, is_file_slot as file_rule};
 ghost use Rattle.kho_records.specs.Reading.{are_zero as all_zero, kind_of, text_of};
@@ -26,7 +26,7 @@ pub struct ReadSession {
 }
 
 /// What a slot of a file frame says.
-#[derive(Debug, Drop)]
+#[derive(Clone, Copy, Debug)]
 pub struct ReadFile {
     /// The file's token.
     pub token: u64,
@@ -148,7 +148,8 @@ fn has_runs(file: &ReadFile) -> bool
 
 /// Whether a file's slot keeps the rules that it keeps by itself.
 fn is_kept(file: &ReadFile) -> bool
-    ensures { result ≡ file_rule (file_view file.now) }
+    ensures exact { result ≡ file_rule (file_view file.now) }
+    ensures order { IsTrue result → file.now.order ≤ MAX_ORDER }
 {
     file.order <= u64::from(MAX_ORDER)
         && file.size <= u64::from(FILE_BYTES)
@@ -166,7 +167,8 @@ fn is_kept(file: &ReadFile) -> bool
 #[tactic(auto, unfolding(crate::specs::Slots::file_kept, crate::specs::Reading::file_slot_at))]
 pub fn file_slot(bytes: &[u8]) -> Option<ReadFile>
     requires { length bytes.now ≡ 128 }
-    ensures { Gives file_view result (file_kept bytes.now) }
+    ensures slot { Gives file_view result (file_kept bytes.now) }
+    ensures order { IfSome result (λ f. f.order ≤ MAX_ORDER) }
 {
     let Some(kind) = kind_at(get_u64(bytes, 8)) else {
         return None;

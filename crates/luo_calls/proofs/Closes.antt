@@ -1,97 +1,329 @@
--- How the turns of a `close` make the parts of its files.
-use Rattle.std.proofs.Common.{◌≡◌, ℕ, Bool, true, false, List, [], ◌∷◌, ◌++◌, map, refl, ap, sym, subst, ◌∙◌, append_assoc}
-use Rattle.std.proofs.Common.{◌<◌, length, arith}
-use Rattle.std.proofs.lemmas.List.{append-nil, length-map}
-use Rattle.phys_frames.specs.Memory.{FolioValue, first_frames}
-use Rattle.std.specs.List.{flat_map}
-use Rattle.ho_base.specs.declared.numbers.Pfn.{Pfn}
-use Rattle.ho_base.specs.declared.numbers.Order.{Order}
-use Rattle.ho_base.specs.declared.numbers.Token.{Token}
+-- How the turns of a `close` make its sequence.
+use Rattle.std.proofs.Common.{◌≡◌, cond, ℕ, ◌+◌, ◌<◌, ◌==◌, ◌||◌, ◌&&◌, not, Bool, true, false, List, [], ◌∷◌, ◌++◌, length, get_or, take, map, refl, sym, ap, subst, ◌∙◌, arith, append_assoc, inr}
+use Rattle.std.specs.Prelude as result
+use Rattle.std.specs.Prelude.{Option, None, Some, MatchOption, unwrap_or, Result, IfOk, IfErr, OnErr}
+use Rattle.std.specs.List.{list_any, flat_map}
+use Rattle.std.specs.FinMap as finmap
+use Rattle.std.proofs.lemmas.List.{append-nil, map-append, take_more}
+use Rattle.std.proofs.lemmas.List.Concat.{flat_map-append}
+use Rattle.ho_base.specs.Objects.{registry_no, session_no, file_no}
 use Rattle.ho_base.specs.declared.numbers.FileNo.{FileNo}
 use Rattle.ho_base.specs.declared.numbers.Kind.TheVariants.{Memfd}
-use Rattle.std.specs.Prelude.{Option, Some, None, option_map, MatchOption}
+use Rattle.ho_base.specs.declared.numbers.ObjectNo.{ObjectNo}
+use Rattle.ho_base.specs.declared.numbers.Order.{Order}
+use Rattle.ho_base.specs.declared.numbers.Pfn.{Pfn}
 use Rattle.ho_base.specs.declared.numbers.SlotNo.{SlotNo}
-use Rattle.ho_events.specs.Session.{SessionState, is_out}
+use Rattle.ho_events.specs.Lists.{are_distinct}
+use Rattle.ho_events.specs.Session.{SessionState, Listed, files_of, is_out}
+use Rattle.ho_events.specs.History.{session_from}
+use Rattle.ho_events.specs.Contents as contents
+use Rattle.ho_events.specs.declared.command.Command.TheVariants as command
+use Rattle.ho_events.specs.declared.event.Event.{Event}
+use Rattle.ho_events.specs.declared.event.Event.TheVariants.{FileUnpin, RegDropName, RegFindOut, RegFreeFile, SessionClose}
 use Rattle.ho_events.specs.declared.reply.Reply.{Reply}
-use Rattle.ho_events.specs.declared.command.Command.TheVariants.{Close}
-use Rattle.luo_calls.specs.declared.told.CloseTold as close
+use Rattle.ho_events.specs.declared.reply.Reply.TheVariants.{Ok, OkSlot, NoSession, KeptRuns, Gone}
+use Rattle.ho_events.specs.declared.slip.At.{At}
+use Rattle.ho_world.specs.Acts.{Act, Claim, IsFile, HasFiles, Reference, reference_of, references, file, registry, session}
+use Rattle.ho_world.specs.Entries.{is_ok}
+use Rattle.ho_world.specs.Logs.{Deed, AreClaimed, HoldsOf, Known, deed_at, deed_of, end_with, known_state}
+use Rattle.ho_world.specs.Sequences.{Labels, CloseCame}
+use Rattle.ho_world.specs.Sequences.Parts.{Part, Closed, NoSuchName, NotOut, close_part, have_distinct_files, part_reference}
+use Rattle.ho_world.specs.World.{session_in}
+use Rattle.ho_world.proofs.Grow.{session_run}
+use Rattle.phys_frames.specs.Memory.{FolioValue, first_frames}
+use Rattle.session_core.specs.SessionShown.{reference}
+use Rattle.session_core.specs.SessionValues.{SessionIs, SessionValue}
 use Rattle.session_core.specs.Sessions.{close_answer}
-use Rattle.ho_events.specs.Sequences.{Act, Content, Reference, Labeled, OfFiles, deeds, numbered, acts, session, done, close_part, closed_reference, file, pool, registry, unless_empty, OfFile}
-use Rattle.ho_events.specs.declared.event.Event.TheVariants.{FileUnpin, PoolUnmark, PoolGive, RegFreeFile, RegFindOut, RegDropName, SessionClose}
-use Rattle.ho_events.specs.declared.reply.Reply.TheVariants.{Ok, OkSlot, KeptRuns, Gone}
-use Rattle.luo_calls.specs.declared.told.ClosedTold.{ClosedTold}
-use Rattle.luo_calls.specs.Closes.{IsPart}
-use Rattle.machine_core.specs.Machine.{Agent}
-use Rattle.luo_calls.specs.Outcomes.{closed_file, kept_reference, close_outcome, close_rest, IsCloseRest}
-use Rattle.luo_calls.specs.Turns.{Did, Came}
-use Rattle.luo_calls.proofs.CommandSteps.{did_both}
+use Rattle.machine_core.specs.declared.halt.Halt.TheVariants.{Memory, Broken}
+use Rattle.machine_core.specs.declared.object.Object.{Object}
+use Rattle.machine_core.specs.declared.object.Object.TheVariants.{Session}
+use Rattle.machine_core.specs.Agents.{Agent, HasEnded, begun, with_at}
+use Rattle.machine_core.specs.Commands.{Comes}
+use Rattle.machine_core.specs.Objects.{known_of, start_of}
+use Rattle.machine_core.specs.Turns.{Goes, IsDoubled}
+use Rattle.luo_calls.specs.Closing.{ClosesSlot, HasClosed, Kept, after_unpin, deeds, given_back, has_number, have_own_numbers, kept_reference, unmarked}
+use Rattle.luo_calls.specs.Doing.{SticksAfter}
+use Rattle.luo_calls.specs.Opened.{Holds, Opens, without}
+use Rattle.luo_calls.specs.Replies.{IsUnpinReply}
+use Rattle.luo_calls.specs.Stuck.{Sticks}
+use Rattle.luo_calls.specs.declared.stuck.Stopped.{Stopped}
+use Rattle.luo_calls.specs.declared.stuck.Stuck.{Stuck}
+use Rattle.luo_calls.proofs.Chains.{then_goes}
+use Rattle.luo_calls.proofs.Nested.{goes_nowhere, holds_goes, outer_goes, outer_sticks, sticks_first, sticks_held, sticks_later, under_at, within_goes}
 
--- a file by what its session kept of it
-pub part_reference : (c : ClosedTold) → (kept : Token × FileNo × ℕ) → (order : Order) → (runs : List Pfn) → (gone : Bool) → IsPart c kept order runs gone → closed_reference (closed_file c) ≡ kept_reference kept
-part_reference c kept order runs gone h = λ i. record { token = (h.same_token i).0; file = (h.same_number i).0; handle = h.same_handle i }
+-- ---- whether a file stands twice
 
--- the part's acts, by its parts
-kept_acts : (c : ClosedTold) → c.gone ≡ false → close_part (closed_file c) ≡ file c.number FileUnpin (KeptRuns c.runs.value) (OfFile Memfd c.order.0) ∷ (unless_empty c.runs.value (pool (PoolUnmark c.order c.runs.value) Ok) ++ [])
-kept_acts c h = rw h refl
+numbers_any : (n : ℕ) (files : List Kept) → list_any (λ y. y == n) (map (λ f. f.1.0) files) ≡ has_number n files
+unfolding has_number
+numbers_any n [] = refl
+numbers_any n (f ∷ files) = ap (λ b. f.1.0 == n || b) (numbers_any n files)
 
-gone_acts : (c : ClosedTold) → c.gone ≡ true → close_part (closed_file c) ≡ file c.number FileUnpin (Gone c.runs.value) (OfFile Memfd c.order.0) ∷ (unless_empty c.runs.value (pool (PoolUnmark c.order c.runs.value) Ok) ++ (unless_empty c.runs.value (pool (PoolGive c.order c.runs.value) Ok) ++ registry (RegFreeFile c.number) Ok ∷ []))
-gone_acts c h = rw h refl
+pub repeats : (f : Kept) (files : List Kept) → has_number f.1.0 files ≡ true → have_own_numbers (f ∷ files) ≡ false
+unfolding have_own_numbers
+repeats f files h = ap (λ b. not b && are_distinct (map (λ g. g.1.0) files)) (numbers_any f.1.0 files ∙ h)
 
-pub kept_part : (c : ClosedTold) → (kept : Token × FileNo × ℕ) → (order : Order) → (runs : List Pfn) → (n : ℕ) → (x y z : Agent) → IsPart c kept order runs false → Did n (file kept.1 FileUnpin (KeptRuns runs) (OfFile Memfd order.0) ∷ []) x y → Did n (unless_empty runs (pool (PoolUnmark order runs) Ok)) y z → Did n (close_part (closed_file c)) x z
-kept_part c kept order runs n x y z h first rest =
-    subst (λ made. Did n made x z) (sym (kept_acts c h.same_gone ∙ made)) (did_both n _ _ x y z first rest)
+pub goes_on : (f : Kept) (files : List Kept) → has_number f.1.0 files ≡ false → have_own_numbers (f ∷ files) ≡ have_own_numbers files
+unfolding have_own_numbers
+goes_on f files h = ap (λ b. not b && are_distinct (map (λ g. g.1.0) files)) (numbers_any f.1.0 files ∙ h)
+
+pub none_repeats : (files : List Kept) → length files ≡ 0 → have_own_numbers files ≡ true
+unfolding have_own_numbers
+none_repeats [] h = refl
+none_repeats (f ∷ files) h = absurd (omega arith)
+
+-- ---- what may be taken
+
+-- what isn't in hand isn't where an object goes back
+pub still_free : (m n : ℕ) (f : ℕ → Option Known) → f m ≡ None → with_at n None f m ≡ None
+still_free m n f is = go (m == n) refl
   where
-    made : file c.number FileUnpin (KeptRuns c.runs.value) (OfFile Memfd c.order.0) ∷ (unless_empty c.runs.value (pool (PoolUnmark c.order c.runs.value) Ok) ++ []) ≡ (file kept.1 FileUnpin (KeptRuns runs) (OfFile Memfd order.0) ∷ []) ++ unless_empty runs (pool (PoolUnmark order runs) Ok)
-    made = (λ i. file (h.same_number i) FileUnpin (KeptRuns (h.same_runs i)) (OfFile Memfd (h.same_order i).0) ∷ append-nil (unless_empty (h.same_runs i) (pool (PoolUnmark (h.same_order i) (h.same_runs i)) Ok)) i)
+    go : (b : Bool) → (m == n) ≡ b → with_at n None f m ≡ None
+    go true e = rw e refl
+    go false e = rw e is
 
-pub gone_part : (c : ClosedTold) → (kept : Token × FileNo × ℕ) → (order : Order) → (runs : List Pfn) → (n : ℕ) → (x y z : Agent) → IsPart c kept order runs true → Did n (file kept.1 FileUnpin (Gone runs) (OfFile Memfd order.0) ∷ []) x y → Did n (unless_empty runs (pool (PoolUnmark order runs) Ok) ++ (unless_empty runs (pool (PoolGive order runs) Ok) ++ registry (RegFreeFile kept.1) Ok ∷ [])) y z → Did n (close_part (closed_file c)) x z
-gone_part c kept order runs n x y z h first rest =
-    subst (λ made. Did n made x z) (sym (gone_acts c h.same_gone ∙ made)) (did_both n _ _ x y z first rest)
-  where
-    made : file c.number FileUnpin (Gone c.runs.value) (OfFile Memfd c.order.0) ∷ (unless_empty c.runs.value (pool (PoolUnmark c.order c.runs.value) Ok) ++ (unless_empty c.runs.value (pool (PoolGive c.order c.runs.value) Ok) ++ registry (RegFreeFile c.number) Ok ∷ [])) ≡ (file kept.1 FileUnpin (Gone runs) (OfFile Memfd order.0) ∷ []) ++ (unless_empty runs (pool (PoolUnmark order runs) Ok) ++ (unless_empty runs (pool (PoolGive order runs) Ok) ++ registry (RegFreeFile kept.1) Ok ∷ []))
-    made = (λ i. file (h.same_number i) FileUnpin (Gone (h.same_runs i)) (OfFile Memfd (h.same_order i).0) ∷ (unless_empty (h.same_runs i) (pool (PoolUnmark (h.same_order i) (h.same_runs i)) Ok) ++ (unless_empty (h.same_runs i) (pool (PoolGive (h.same_order i) (h.same_runs i)) Ok) ++ registry (RegFreeFile (h.same_number i)) Ok ∷ [])))
+-- ---- runs and folios, where there are some
 
--- the acts of one file more
-pub parts_push : (parts : List ClosedTold) → (c : ClosedTold) → flat_map close_part (map closed_file (parts ++ c ∷ [])) ≡ flat_map close_part (map closed_file parts) ++ close_part (closed_file c)
-parts_push [] c = append-nil (close_part (closed_file c))
-parts_push (d ∷ parts) c =
-    ap (λ more. close_part (closed_file d) ++ more) (parts_push parts c)
-    ∙ sym (append_assoc (close_part (closed_file d)) (flat_map close_part (map closed_file parts)) (close_part (closed_file c)))
+pub none_unmarked : (o : Order) (runs : List Pfn) (at : At) (a : Agent) → length runs ≡ 0 → Goes (deeds (unmarked o runs)) at at a a
+none_unmarked o [] at a h = goes_nowhere at a
+none_unmarked o (r ∷ runs) at a h = absurd (omega (arith, h))
 
-pub references_push : (parts : List ClosedTold) → (c : ClosedTold) → map closed_reference (map closed_file (parts ++ c ∷ [])) ≡ map closed_reference (map closed_file parts) ++ closed_reference (closed_file c) ∷ []
-references_push [] c = refl
-references_push (d ∷ parts) c = ap (λ rs. closed_reference (closed_file d) ∷ rs) (references_push parts c)
+pub none_given : (o : Order) (folios : List FolioValue) (at : At) (a : Agent) → length folios ≡ 0 → Goes (deeds (given_back o (first_frames folios))) at at a a
+none_given o [] at a h = goes_nowhere at a
+none_given o (f ∷ folios) at a h = absurd (omega (arith, h))
 
-pub kept_push : (files : List (Token × FileNo × ℕ)) → (f : Token × FileNo × ℕ) → map kept_reference (files ++ f ∷ []) ≡ map kept_reference files ++ kept_reference f ∷ []
-kept_push [] f = refl
-kept_push (g ∷ files) f = ap (λ rs. kept_reference g ∷ rs) (kept_push files f)
+pub gone_goes : (f : FileNo) (o : Order) (runs : List Pfn) (folios : List FolioValue) (at at1 at2 at3 : At) (a a1 a2 a3 : Agent) → first_frames folios ≡ runs → Goes (deeds (unmarked o runs)) at at1 a a1 → Goes (deeds (given_back o (first_frames folios))) at1 at2 a1 a2 → Goes (deed_at registry_no [] (RegFreeFile f) Ok ∷ []) at2 at3 a2 a3 → Goes (deeds (after_unpin f o (Gone runs))) at at3 a a3
+gone_goes f o runs folios at at1 at2 at3 a a1 a2 a3 same h k l =
+    subst (λ ds. Goes ds at at3 a a3)
+    (sym (map-append deed_of (unmarked o runs) (given_back o runs ++ registry (RegFreeFile f) Ok ∷ []) ∙ ap (λ ds. deeds (unmarked o runs) ++ ds) (map-append deed_of (given_back o runs) (registry (RegFreeFile f) Ok ∷ []))))
+    (then_goes _ _ at at1 at3 a a1 a3 h (then_goes _ _ at1 at2 at3 a1 a2 a3 (subst (λ rs. Goes (deeds (given_back o rs)) at1 at2 a1 a2) same k) l))
 
--- the sequence is the question for the session and the rest
-close_acts_are : (labels : List Labeled) → (name : List ℕ) → (slot : SlotNo) → (told : close.CloseTold) → IsCloseRest slot told → acts labels (Close name) (close_outcome told) ≡ Some (registry (RegFindOut name) (OkSlot slot) ∷ close_rest name told)
-close_acts_are labels name slot close.TheVariants.NoSuchName h = absurd h
-close_acts_are labels name slot (close.TheVariants.NotOut s files) h = rw h refl
-close_acts_are labels name slot (close.TheVariants.Closed s files) h = rw h refl
+-- ---- the part of a file
 
-pub close_came : (labels : List Labeled) → (name : List ℕ) → (slot : SlotNo) → (n : ℕ) → (told : close.CloseTold) → (a b c : Agent) → IsCloseRest slot told → Did n (registry (RegFindOut name) (OkSlot slot) ∷ []) a b → Did n (close_rest name told) b c → Came labels (Close name) n (close_outcome told) a c
-close_came labels name slot n told a b c h found rest = record {
-  deeds_are = ap (option_map (λ (made : List Act). deeds a.log ++ map (numbered n) made)) (close_acts_are labels name slot told h)
-      ∙ ap Some (sym (did_both n _ _ a b c found rest).deeds_are);
+part_of : Kept → Order → List Pfn → Bool → Part
+part_of f o runs gone = record { number = f.1; handle = f.2; kind = Memfd; order = o; runs = runs; last = None; gone = gone }
+
+kept_acts : (f : Kept) (o : Order) (runs : List Pfn) → flat_map close_part (part_of f o runs false ∷ []) ≡ file f.1 (IsFile f.1 Memfd o ∷ []) FileUnpin (KeptRuns runs) ∷ unmarked o runs
+unfolding part_of
+kept_acts f o runs = ap (λ rest. file f.1 (IsFile f.1 Memfd o ∷ []) FileUnpin (KeptRuns runs) ∷ rest) (append-nil (unmarked o runs ++ []) ∙ append-nil (unmarked o runs))
+
+gone_acts : (f : Kept) (o : Order) (runs : List Pfn) → flat_map close_part (part_of f o runs true ∷ []) ≡ file f.1 (IsFile f.1 Memfd o ∷ []) FileUnpin (Gone runs) ∷ after_unpin f.1 o (Gone runs)
+unfolding part_of
+gone_acts f o runs = append-nil (file f.1 (IsFile f.1 Memfd o ∷ []) FileUnpin (Gone runs) ∷ after_unpin f.1 o (Gone runs))
+
+pub closed_one : (f : Kept) (o : Order) (reply : Reply) (at at1 at2 : At) (a a1 a2 : Agent) → IsUnpinReply reply → Goes (deed_at (file_no f.1.0) (IsFile f.1 Memfd o ∷ []) FileUnpin reply ∷ []) at at1 a a1 → Goes (deeds (after_unpin f.1 o reply)) at1 at2 a1 a2 → HasClosed (f ∷ []) at at2 a a2
+unfolding part_of
+closed_one f o (KeptRuns runs) at at1 at2 a a1 a2 u g h = record {
+  parts = part_of f o runs false ∷ [];
+  listed = refl;
+  goes = subst (λ acts. Goes (deeds acts) at at2 a a2) (sym (kept_acts f o runs)) (then_goes _ _ at at1 at2 a a1 a2 g h);
+}
+closed_one f o (Gone runs) at at1 at2 a a1 a2 u g h = record {
+  parts = part_of f o runs true ∷ [];
+  listed = refl;
+  goes = subst (λ acts. Goes (deeds acts) at at2 a a2) (sym (gone_acts f o runs)) (then_goes _ _ at at1 at2 a a1 a2 g h);
+}
+closed_one f o reply at at1 at2 a a1 a2 u g h = absurd u
+
+-- ---- the parts of files
+
+pub closed_none : (at : At) (a : Agent) → HasClosed [] at at a a
+closed_none at a = record { parts = []; listed = refl; goes = goes_nowhere at a }
+
+pub closed_both : (fs gs : List Kept) (at at1 at2 : At) (a a1 a2 : Agent) → HasClosed fs at at1 a a1 → HasClosed gs at1 at2 a1 a2 → HasClosed (fs ++ gs) at at2 a a2
+closed_both fs gs at at1 at2 a a1 a2 h k = record {
+  parts = h.parts ++ k.parts;
+  listed = map-append part_reference h.parts k.parts ∙ (λ i. h.listed i ++ k.listed i) ∙ sym (map-append kept_reference fs gs);
+  goes =
+      subst (λ ds. Goes ds at at2 a a2)
+      (sym (ap deeds (flat_map-append close_part h.parts k.parts) ∙ map-append deed_of (flat_map close_part h.parts) (flat_map close_part k.parts)))
+      (then_goes _ _ at at1 at2 a a1 a2 h.goes k.goes);
 }
 
--- the parts, and then the end of the session and what follows
-pub closed_parts : (name : List ℕ) → (slot : SlotNo) → (parts : List ClosedTold) → (content : Content) → (refs : List Reference) → (n : ℕ) → (a b c : Agent) → Did n (flat_map close_part (map closed_file parts)) a b → map closed_reference (map closed_file parts) ≡ refs → content ≡ OfFiles refs → Did n (session slot (SessionClose name) Ok content ∷ registry (RegDropName name) Ok ∷ done Ok ∷ []) b c → Did n (flat_map close_part (map closed_file parts) ++ session slot (SessionClose name) Ok (OfFiles (map closed_reference (map closed_file parts))) ∷ registry (RegDropName name) Ok ∷ done Ok ∷ []) a c
-closed_parts name slot parts content refs n a b c h same is x =
-    did_both n _ _ a b c h
-    (subst (λ (r : Content). Did n (session slot (SessionClose name) Ok r ∷ registry (RegDropName name) Ok ∷ done Ok ∷ []) b c) (is ∙ ap OfFiles (sym same)) x)
+pub closed_more : (files : List Kept) (i : ℕ) (d : Kept) (at at1 at2 : At) (a a1 a2 : Agent) → i < length files → HasClosed (take i files) at at1 a a1 → HasClosed (get_or files i d ∷ []) at1 at2 a1 a2 → HasClosed (take (i + 1) files) at at2 a a2
+closed_more files i d at at1 at2 a a1 a2 less h k =
+    subst (λ fs. HasClosed fs at at2 a a2) (sym (take_more files i d less)) (closed_both (take i files) (get_or files i d ∷ []) at at1 at2 a a1 a2 h k)
 
--- an outgoing session that is ended answers `Ok`, another one `NoSession`
-pub closed_says : (h : Option SessionState) → (name : List ℕ) → (b : Bool) → (v : Reply) → MatchOption h ⊥ (λ s. b ≡ is_out s name) → MatchOption h ⊥ (λ s. v ≡ close_answer (is_out s name)) → v ≡ close_answer b
-closed_says None name b v e a = absurd e
-closed_says (Some s) name b v e a = a ∙ ap close_answer (sym e)
+pub closed_within : (files : List Kept) (at at1 : At) (n : ℕ) (a a1 : Agent) → HasClosed files at at1 a a1 → HasClosed files at at1 (without n a) (without n a1)
+closed_within files at at1 n a a1 h = record { parts = h.parts; listed = h.listed; goes = within_goes _ at at1 n a a1 h.goes }
 
--- as many folios as runs
-pub given_few : (folios : List FolioValue) → (runs : List Pfn) → (n : ℕ) → first_frames folios ≡ runs → length runs < n → length folios < n
-given_few folios runs n same few =
-    let as_many : length (first_frames folios) ≡ length folios = length-map folios (λ f. f.first) in
-    let runs_as_many : length (first_frames folios) ≡ length runs = ap length same in
-    omega arith
+-- ---- the session's files, as its history tells them
+
+-- a file of a sequence but for its token
+abbrev without_token : contents.Reference → Reference
+without_token r = record { file = r.file; handle = r.handle }
+
+entries_references : (es : List (ℕ × Listed)) → map reference_of (map (λ e. e.1) es) ≡ map without_token (map contents.reference_of es)
+entries_references [] = refl
+entries_references (e ∷ es) = ap (λ rs. reference_of e.1 ∷ rs) (entries_references es)
+
+kept_references : (files : List Kept) → map without_token (map reference files) ≡ map kept_reference files
+kept_references [] = refl
+kept_references (f ∷ files) = ap (λ rs. kept_reference f ∷ rs) (kept_references files)
+
+same_files : (xs ys : List contents.Reference) → contents.OfFiles xs ≡ contents.OfFiles ys → xs ≡ ys
+same_files xs ys h = cc
+
+content_is : (x : Option SessionState) (files : List Kept) → contents.session_content x ≡ contents.OfFiles (map reference files) → MatchOption x ⊥ (λ s. references s ≡ map kept_reference files)
+content_is None files h = cc
+content_is (Some s) files h = entries_references (finmap.entries (files_of s)) ∙ ap (map without_token) (same_files _ _ h) ∙ kept_references files
+
+abbrev Tells : SessionValue → List Kept → Type 0
+Tells v files = contents.session_content (session_from v.start v.history) ≡ contents.OfFiles (map reference files)
+
+lists : (v : SessionValue) (files : List Kept) → Tells v files → references (session_in (known_state (known_of (Session v)))) ≡ map kept_reference files
+lists v files h = go (session_from v.start v.history) refl (content_is _ files h)
+  where
+    leads : (s : SessionState) → session_from v.start v.history ≡ Some s → session_in (known_state (known_of (Session v))) ≡ s
+    leads s e = rw (session_run v.start v.history, e) refl
+
+    go : (x : Option SessionState) → session_from v.start v.history ≡ x → MatchOption x ⊥ (λ s. references s ≡ map kept_reference files) → references (session_in (known_state (known_of (Session v)))) ≡ map kept_reference files
+    go None e m = absurd m
+    go (Some s) e m = ap references (leads s e) ∙ m
+
+file_numbers : (files : List Kept) → map (λ r. r.file) (map kept_reference files) ≡ map (λ f. f.1.0) files
+file_numbers [] = refl
+file_numbers (f ∷ files) = ap (λ ns. f.1.0 ∷ ns) (file_numbers files)
+
+part_numbers : (parts : List Part) → map (λ r. r.file) (map part_reference parts) ≡ map (λ c. c.number.0) parts
+part_numbers [] = refl
+part_numbers (c ∷ parts) = ap (λ ns. c.number.0 ∷ ns) (part_numbers parts)
+
+distinct_parts : (files : List Kept) (parts : List Part) → have_own_numbers files ≡ true → map part_reference parts ≡ map kept_reference files → have_distinct_files parts ≡ true
+unfolding have_own_numbers
+distinct_parts files parts own listed = ap are_distinct (sym (part_numbers parts) ∙ ap (map (λ r. r.file)) listed ∙ file_numbers files) ∙ own
+
+-- the session lists a file twice
+pub is_doubled : (v : SessionValue) (files : List Kept) → Tells v files → have_own_numbers files ≡ false → IsDoubled (Some (start_of (Session v))) v.history
+unfolding have_own_numbers
+is_doubled v files told h = ap are_distinct (ap (map (λ r. r.file)) (lists v files told) ∙ file_numbers files) ∙ h
+
+-- its files are known, while it is in hand
+pub files_claimed : (a : Agent) (hands : ℕ → Option Known) (slot : SlotNo) (v : SessionValue) (files : List Kept) (parts : List Part) → hands (session_no slot.0) ≡ Some (known_of (Session v)) → Tells v files → map part_reference parts ≡ map kept_reference files → AreClaimed (begun a) hands (HasFiles slot (map part_reference parts) ∷ [])
+files_claimed a hands slot v files parts held told listed =
+    (subst (λ k. HoldsOf k (HasFiles slot (map part_reference parts))) (sym held) (lists v files told ∙ sym listed), tt)
+
+-- it can't be closed so
+pub doubled_sticks : (at : At) (stuck : Stuck) (number : ObjectNo) (n : ℕ) (a : Agent) (v : SessionValue) (files : List Kept) → number.0 ≡ n → Holds n a (Session v) → Tells v files → have_own_numbers files ≡ false → stuck ≡ record { halt = Broken number; held = Some (number, Session v) } → SticksAfter stuck at at (without n a) a
+doubled_sticks at stuck number n a v files is h told own stuck_is =
+    sticks_first at at stuck (without n a) a refl
+    (subst (λ (s : Stuck). Sticks at s (without n a) a) (sym stuck_is)
+    (sticks_held at (Broken number) number n a a (Session v) is h refl (refl, inr (inr (inr (is_doubled v files told own))))))
+
+-- ---- what the session's end is answered
+
+ok_at : (x : Option SessionState) (name : List ℕ) (b : Bool) (reply : Reply) → MatchOption x ⊥ (λ s. is_out s name ≡ b) → MatchOption x ⊥ (λ s. reply ≡ close_answer (is_out s name)) → reply ≡ close_answer b
+ok_at None name b reply out h = absurd out
+ok_at (Some s) name b reply out h = h ∙ ap close_answer out
+
+-- the same deed, by its reply
+pub same_reply : (n : ℕ) (claims : List Claim) (event : Event) (r q : Reply) (at at' : At) (a a' : Agent) → r ≡ q → Goes (deed_at n claims event r ∷ []) at at' a a' → Goes (deed_at n claims event q ∷ []) at at' a a'
+same_reply n claims event r q at at' a a' e h = subst (λ (x : Reply). Goes (deed_at n claims event x ∷ []) at at' a a') e h
+
+pub answered_as : (v : SessionValue) (name : List ℕ) (b : Bool) (reply : Reply) → SessionIs v (λ s. is_out s name ≡ b) → SessionIs v (λ s. reply ≡ close_answer (is_out s name)) → reply ≡ close_answer b
+answered_as v name b reply out h = ok_at (session_from v.start v.history) name b reply out h
+
+-- ---- turns that can't be taken
+
+-- there is no memory, and nothing was done
+pub no_memory : (at : At) (stuck : Stuck) (a : Agent) → stuck ≡ record { halt = Memory; held = None } → SticksAfter stuck at at a a
+no_memory at stuck a is = sticks_first at at stuck a a refl (subst (λ (s : Stuck). Sticks at s a a) (sym is) (record { same = refl; cause = tt }))
+
+pub stuck_at_once : {X : Type 0} → (at at1 : At) (a a1 : Agent) (r : Result X Stuck) → OnErr r (at1 ≡ at) → IfErr r (λ stuck. Sticks at stuck a a1) → IfErr r (λ stuck. SticksAfter stuck at at1 a a1)
+stuck_at_once at at1 a a1 (result.Ok x) same s = tt
+stuck_at_once at at1 a a1 (result.Err stuck) same s = sticks_first at at1 stuck a a1 same s
+
+-- ---- a session that stays in hand while its files go
+
+pub under_after : (at at1 : At) (stuck : Stuck) (m n : ℕ) (a a1 a2 : Agent) (o : Object) → m ≡ n → SticksAfter stuck at at1 a a1 → Holds n a o → HasEnded a1 m None (a1.hands m) a2 → SticksAfter stuck at at1 (without n a) a2
+under_after at at1 stuck m n a a1 a2 o is s h gave = record {
+  deeds = s.deeds;
+  middle = without n s.middle;
+  goes = within_goes s.deeds at at1 n a s.middle s.goes;
+  sticks = under_at at1 stuck m n s.middle a1 a2 o is s.sticks (holds_goes s.deeds at at1 n a s.middle o h s.goes) gave;
+}
+
+pub outer_closes : (name : List ℕ) (slot : SlotNo) (reply : Reply) (at at1 : At) (n : ℕ) (a a1 a2 : Agent) (o : Object) → Opens at n a a1 o → a.hands n ≡ None → ClosesSlot name slot reply at at1 (without n a1) a2 → ClosesSlot name slot reply at at1 a a2
+outer_closes name slot reply at at1 n a a1 a2 o opens free h = record {
+  outcome = h.outcome;
+  acts = h.acts;
+  is_one = h.is_one;
+  goes = outer_goes _ at at1 n a a1 a2 o opens free h.goes;
+}
+
+-- ---- the sequences
+
+module _ (name : List ℕ) (slot : SlotNo) (at at1 at2 : At) (a a1 a2 : Agent) where
+  pub other_closes : Goes (deed_at (session_no slot.0) [] (SessionClose name) NoSession ∷ []) at at1 a a1 → Goes (end_with NoSession ∷ []) at1 at2 a1 a2 → ClosesSlot name slot NoSession at at2 a a2
+  other_closes g h = record {
+    outcome = NotOut slot;
+    acts = session slot [] (SessionClose name) NoSession ∷ [];
+    is_one = refl;
+    goes = then_goes _ _ at at1 at2 a a1 a2 g h;
+  }
+
+  pub out_closes : (files : List Kept) (c : HasClosed files at at1 a a1) → have_own_numbers files ≡ true → Goes (deed_at (session_no slot.0) (HasFiles slot (map part_reference c.parts) ∷ []) (SessionClose name) Ok ∷ deed_at registry_no [] (RegDropName name) Ok ∷ end_with Ok ∷ []) at1 at2 a1 a2 → ClosesSlot name slot Ok at at2 a a2
+  out_closes files c own h = record {
+    outcome = Closed slot c.parts;
+    acts = flat_map close_part c.parts ++ ends;
+    is_one = rw (distinct_parts files c.parts own c.listed) refl;
+    goes =
+        subst (λ ds. Goes ds at at2 a a2)
+        (sym (ap (λ ds. ds ++ end_with Ok ∷ []) (map-append deed_of (flat_map close_part c.parts) ends) ∙ append_assoc (deeds (flat_map close_part c.parts)) (deeds ends) (end_with Ok ∷ [])))
+        (then_goes _ _ at at1 at2 a a1 a2 c.goes h);
+  }
+    where
+      ends : List Act
+      ends = session slot (HasFiles slot (map part_reference c.parts) ∷ []) (SessionClose name) Ok ∷ registry (RegDropName name) Ok ∷ []
+
+  pub slot_comes : (labels : Labels) (reply : Reply) → Goes (deed_at registry_no [] (RegFindOut name) (OkSlot slot) ∷ []) at at1 a a1 → ClosesSlot name slot reply at1 at2 a1 a2 → Comes labels labels (command.Close name) reply at at2 a a2
+  slot_comes labels reply g h = record {
+    outcome = CloseCame h.outcome;
+    sequence = record { acts = registry (RegFindOut name) (OkSlot slot) ∷ h.acts; reply = reply };
+    is_one = h.is_one;
+    reply_is = refl;
+    goes = then_goes _ _ at at1 at2 a a1 a2 g h.goes;
+    labels_are = either (is_ok reply);
+  }
+    where
+      either : (b : Bool) → labels ≡ cond b labels labels
+      either true = refl
+      either false = refl
+
+-- no session of the name
+module _ (name : List ℕ) (at at1 at2 : At) (a a1 a2 : Agent) where
+  pub none_comes : (labels : Labels) → Goes (deed_at registry_no [] (RegFindOut name) NoSession ∷ []) at at1 a a1 → Goes (end_with NoSession ∷ []) at1 at2 a1 a2 → Comes labels labels (command.Close name) NoSession at at2 a a2
+  none_comes labels g h = record {
+    outcome = CloseCame NoSuchName;
+    sequence = record { acts = registry (RegFindOut name) NoSession ∷ []; reply = NoSession };
+    is_one = refl;
+    reply_is = refl;
+    goes = then_goes _ _ at at1 at2 a a1 a2 g h;
+    labels_are = refl;
+  }
+
+-- the files' parts, and then the end of the session in hand
+pub ends_closed : (name : List ℕ) (slot : SlotNo) (at at1 at2 : At) (a a1 a2 : Agent) (v : SessionValue) (files : List Kept) → Holds (session_no slot.0) a (Session v) → Tells v files → have_own_numbers files ≡ true → HasClosed files at at1 a a1 → ((claims : List Claim) → AreClaimed (begun a1) a1.hands claims → Goes (deed_at (session_no slot.0) claims (SessionClose name) Ok ∷ deed_at registry_no [] (RegDropName name) Ok ∷ end_with Ok ∷ []) at1 at2 (without (session_no slot.0) a1) a2) → ClosesSlot name slot Ok at at2 (without (session_no slot.0) a) a2
+unfolding closed_within
+ends_closed name slot at at1 at2 a a1 a2 v files h told own c goes =
+    let n = session_no slot.0 in
+    let held = holds_goes _ at at1 n a a1 (Session v) h c.goes in
+    out_closes name slot at at1 at2 (without n a) (without n a1) a2 files (closed_within files at at1 n a a1 c) own
+    (goes (HasFiles slot (map part_reference c.parts) ∷ []) (files_claimed a1 a1.hands slot v files c.parts held.held told c.listed))
+
+-- ---- the same, whether the turns were taken or not
+
+pub outer_closes_if : (name : List ℕ) (slot : SlotNo) (at at1 : At) (n : ℕ) (a a1 a2 : Agent) (o : Object) (r : Result Reply Stopped) → Opens at n a a1 o → a.hands n ≡ None → IfOk r (λ reply. ClosesSlot name slot reply at at1 (without n a1) a2) → IfOk r (λ reply. ClosesSlot name slot reply at at1 a a2)
+outer_closes_if name slot at at1 n a a1 a2 o (result.Ok reply) opens free h = outer_closes name slot reply at at1 n a a1 a2 o opens free h
+outer_closes_if name slot at at1 n a a1 a2 o (result.Err s) opens free h = tt
+
+pub outer_stops_if : (at at1 : At) (n : ℕ) (a a1 a2 : Agent) (o : Object) (r : Result Reply Stopped) → Opens at n a a1 o → a.hands n ≡ None → IfErr r (λ s. SticksAfter s.stuck at at1 (without n a1) a2) → IfErr r (λ s. SticksAfter s.stuck at at1 a a2)
+outer_stops_if at at1 n a a1 a2 o (result.Ok reply) opens free h = tt
+outer_stops_if at at1 n a a1 a2 o (result.Err s) opens free h = outer_sticks at at1 s.stuck n a a1 a2 o opens free h
+
+pub slot_comes_if : (name : List ℕ) (slot : SlotNo) (at at1 at2 : At) (a a1 a2 : Agent) (r : Result Reply Stopped) → Goes (deed_at registry_no [] (RegFindOut name) (OkSlot slot) ∷ []) at at1 a a1 → IfOk r (λ reply. ClosesSlot name slot reply at1 at2 a1 a2) → IfOk r (λ reply. (labels : Labels) → Comes labels labels (command.Close name) reply at at2 a a2)
+slot_comes_if name slot at at1 at2 a a1 a2 (result.Ok reply) g h = λ labels. slot_comes name slot at at1 at2 a a1 a2 labels reply g h
+slot_comes_if name slot at at1 at2 a a1 a2 (result.Err s) g h = tt
+
+pub slot_stops_if : (ds : List Deed) (at at1 at2 : At) (a a1 a2 : Agent) (r : Result Reply Stopped) → Goes ds at at1 a a1 → IfErr r (λ s. SticksAfter s.stuck at1 at2 a1 a2) → IfErr r (λ s. SticksAfter s.stuck at at2 a a2)
+slot_stops_if ds at at1 at2 a a1 a2 (result.Ok reply) g h = tt
+slot_stops_if ds at at1 at2 a a1 a2 (result.Err s) g h = sticks_later ds at at1 at2 s.stuck a a1 a2 g h

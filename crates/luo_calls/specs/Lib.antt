@@ -1,7 +1,10 @@
-pub mod CloseLoop
-pub mod Closes
-pub mod Commands
-pub mod Outcomes
+pub mod Came
+pub mod Closing
+pub mod Doing
+pub mod Memfds
+pub mod Opened
+pub mod Preserved
 pub mod Replies
-pub mod Turns
-pub mod Writes
+pub mod Stuck
+pub mod Takes
+pub mod Wrote

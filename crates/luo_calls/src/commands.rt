@@ -1,9 +1,10 @@
-//! One function a command: it chains turns, and answers how the command came out.
+//! Whole commands: each does a whole sequence of its acts, or stops in the middle.
 
 pub mod close;
-pub mod close_files;
+mod close_files;
 pub mod command;
 pub mod create;
 pub mod memfd;
 pub mod preserve;
+pub mod read;
 pub mod write;

@@ -1,12 +1,9 @@
-//! The commands of an agent, over any reach: each is a chain of turns.
+//! What the commands of an agent do, turn by turn, over any reach.
 #![tactic(auto)]
 
-mod commands;
-mod done;
-mod halt;
-mod told;
-mod turns;
+pub mod commands;
+mod stuck;
+pub mod turns;
 
 pub use commands::command::{Outcome, do_command};
-pub use halt::{Halt, Stopped};
-pub use told::{CloseTold, ClosedTold, CreateTold, MemfdTold, PreserveTold, Told, WriteTold};
+pub use stuck::{Stopped, Stuck, empty_handed, release};

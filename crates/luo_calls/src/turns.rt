@@ -1,8 +1,11 @@
-//! One function a turn: it takes an object, makes one event on it, and gives it back with the entry.
+//! The turns of which commands are made.
 
+pub mod done;
 pub mod file;
+pub mod open;
 pub mod pool;
+pub mod read;
 pub mod registry;
+pub mod resume;
 pub mod session;
-pub mod take;
 pub mod write;

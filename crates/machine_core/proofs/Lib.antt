@@ -1,6 +1,12 @@
-pub mod Begins
+pub mod Earlier
+pub mod GivenUp
+pub mod Hands
 pub mod Kernels
-pub mod LabelsBound
-pub mod PlainObjects
+pub mod LabelFiles
+pub mod LabelLists
+pub mod LabelMaps
+pub mod Objects
+pub mod PlainEnds
+pub mod PlainShows
 pub mod PlainSteps
-pub mod Spots
+pub mod Standing

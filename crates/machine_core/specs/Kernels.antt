@@ -1,33 +1,99 @@
--- A kernel before and after an agent's work on it.
-use Rattle.std.specs.Prelude.{◌≡◌, ◌≢◌, ℕ, ◌<◌, List, [], length, slice_index_or, Option, None, Some}
+-- A kernel at rest: its objects by number, the labels of its agents, and how it begins.
+use Rattle.std.specs.Prelude.{◌≡◌, ◌≢◌, ℕ, ◌<◌, nat_le, is_some, IsTrue, List, [], length, slice_index_or, Option, None, Some}
+use Rattle.std.specs.List.{list_all}
 use Rattle.ho_base.specs.ShapeRule.{Layout}
 use Rattle.ho_base.specs.Objects.{pool_no}
+use Rattle.ho_events.specs.declared.entry.Entry.{Entry}
+use Rattle.ho_world.specs.Sequences.{Labels}
+use Rattle.ho_world.specs.World.{State, run, cold}
 use Rattle.phys_frames.specs.Homes.{HomeId}
 use Rattle.machine_core.specs.declared.object.Object as object
 use Rattle.machine_core.specs.declared.object.Object.TheVariants.{Pool, Registry, Session, File}
-use Rattle.machine_core.specs.declared.plain.Out.{Out}
-use Rattle.machine_core.specs.Machine.{spot_at}
-use Rattle.machine_core.specs.Plain.{IsOutAt, IsAt}
+use Rattle.machine_core.specs.Agents.{state_in}
+use Rattle.machine_core.specs.Objects.{Start, Spot, NoSpot, spot_at, spot_of, object_count, number_of, start_of, history_of, IsOfMachine}
 
--- a kernel that began cold: its number, its machine's shape and the home of its frames
-pub record ColdKernel : Type 0 where
+-- a kernel at rest: its number, its machine's shape and the home of its frames, its objects by number, the labels of
+-- its agents by agent number, and the greatest stamp so far
+pub record KernelValue : Type 0 where
   pub number : ℕ
   pub shape : Layout
   pub home : HomeId
+  pub objects : List (Option object.Object)
+  pub labels : List Labels
+  pub base : ℕ
 
--- the pool is in hand, and nothing else
-abbrev pub pool_out : Out
-pool_out = record { pool = Some (record { 0 = pool_no }); registry = None; session = None; file = None }
+-- the object at a number, its start and its history
+abbrev pub object_at : List (Option object.Object) → ℕ → Option object.Object
+object_at objects n = slice_index_or objects n None
 
--- a place while a kernel is built, with the pool in hand: the object of its number, with no history, or none where
--- no object has it
-unfoldable pub IsBuilt : Layout → HomeId → ℕ → Option object.Object → Type 0
-IsBuilt shape home n None = IsOutAt (spot_at n) pool_out n
-IsBuilt shape home n (Some object) = (n ≢ pool_no) × IsAt shape home [] n object
+abbrev pub start_in : Option object.Object → Option Start
+start_in None = None
+start_in (Some o) = Some (start_of o)
+
+abbrev pub history_in : Option object.Object → List Entry
+history_in None = []
+history_in (Some o) = history_of o
+
+-- the starts of objects, the states in which they began, and their histories, by object number
+abbrev pub starts_in : List (Option object.Object) → ℕ → Option Start
+starts_in objects n = start_in (object_at objects n)
+
+abbrev pub begun_in : List (Option object.Object) → ℕ → Option State
+begun_in objects n = state_in (starts_in objects n)
+
+abbrev pub histories_in : List (Option object.Object) → ℕ → List Entry
+histories_in objects n = history_in (object_at objects n)
+
+-- an object of a kernel of this machine that has this number
+pub record IsAt (shape : Layout) (home : HomeId) (n : ℕ) (o : object.Object) : Type 0 where
+  pub number : number_of o ≡ n
+  pub kind : spot_of o ≡ spot_at n
+  pub machine : IsOfMachine shape home o
+
+-- what is at a number: the object that has it, and none at a number without an object
+abbrev pub IsSlot : Layout → HomeId → ℕ → Option object.Object → Type 0
+IsSlot shape home n None = spot_at n ≡ NoSpot
+IsSlot shape home n (Some o) = IsAt shape home n o
+
+-- a history is a run of the steps of the object that began so
+abbrev pub IsRunAt : Option Start → List Entry → Type 0
+IsRunAt None h = Unit {0}
+IsRunAt (Some s) h = IsTrue (is_some (run s.state h))
+
+-- no stamp of entries is greater than this
+abbrev pub AreUpTo : ℕ → List Entry → Type 0
+AreUpTo t es = IsTrue (list_all (λ e. nat_le e.stamp t) es)
+
+-- each object is at its number with a history that is a run, and no stamp is greater than the base
+pub record KeepsKernel (shape : Layout) (home : HomeId) (base : ℕ) (objects : List (Option object.Object)) : Type 0 where
+  pub count : length objects ≡ object_count
+  pub slots : (n : ℕ) → n < object_count → IsSlot shape home n (object_at objects n)
+  pub runs : (n : ℕ) → IsRunAt (starts_in objects n) (histories_in objects n)
+  pub stamps : (n : ℕ) → AreUpTo base (histories_in objects n)
+
+-- the state in which an object of a kind begins; a number without an object has none
+abbrev pub if_built : Spot → State → Option State
+if_built NoSpot s = None
+if_built spot s = Some s
+
+-- the states in which the objects of a cold kernel begin
+abbrev pub cold_begun : Layout → ℕ → Option State
+cold_begun shape n = if_built (spot_at n) ((cold shape).at n)
+
+-- an object of a kernel that begins cold: it is as it begins, without a history
+pub record IsCold (shape : Layout) (home : HomeId) (n : ℕ) (o : object.Object) : Type 0 where
+  pub here : IsAt shape home n o
+  pub state : (start_of o).state ≡ (cold shape).at n
+  pub history : history_of o ≡ []
+
+-- what is at a number while the kernel is built, before the pool: the object that has it
+abbrev pub IsBuilt : Layout → HomeId → ℕ → Option object.Object → Type 0
+IsBuilt shape home n None = n ≢ pool_no → spot_at n ≡ NoSpot
+IsBuilt shape home n (Some o) = (n ≢ pool_no) × IsCold shape home n o
 
 -- the places of a kernel that were built so far
 unfoldable pub AreBuilt : Layout → HomeId → List (Option object.Object) → Type 0
-AreBuilt shape home objects = (n : ℕ) → n < length objects → IsBuilt shape home n (slice_index_or objects n None)
+AreBuilt shape home objects = (n : ℕ) → n < length objects → IsBuilt shape home n (object_at objects n)
 
 -- what is left at a place where the pool was taken away: no pool, and a file of this home
 abbrev pub IsLeft : HomeId → Option object.Object → Type 0

@@ -1,5 +1,7 @@
+pub mod Agents
+pub mod Commands
 pub mod Kernels
 pub mod LabelsShown
-pub mod Machine
+pub mod Objects
 pub mod Plain
-pub mod Starts
+pub mod Turns

@@ -1,16 +1,19 @@
 //! The kernel's objects, and how an agent reaches them one turn at a time.
 #![tactic(auto)]
 
+mod cold;
+mod halt;
 mod kernel;
 mod labels;
 mod object;
+mod places;
 mod plain;
 mod reach;
-mod wrap;
+mod scrap;
 
-pub use kernel::{Kernel, Spent};
+pub use halt::{Halt, LATE};
+pub use kernel::Kernel;
 pub use labels::Labels;
 pub use object::Object;
 pub use plain::PlainReach;
 pub use reach::Reach;
-pub use wrap::{begin_file, begin_pool, begin_registry, begin_session};

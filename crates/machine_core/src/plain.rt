@@ -1,192 +1,76 @@
 //! A reach without threads: one agent works on the kernel's objects by itself.
 
-ghost use Rattle.std.specs.Prelude.{◌≡◌, ℕ, ◌+◌, ◌-◌, ◌<◌, ◌≤◌, IsTrue, IsSome, IfSome, OnOk, Some, None, [], vec_len, vec_capacity, slice_index_or, slice_set};
-ghost use Rattle.ho_events.specs.History.{on, is_run_of_object, paired, by};
-ghost use Rattle.ho_events.specs.Legal.{is_of_kernel, rises_from, are_stamped};
+ghost use Rattle.std.specs.Prelude.{◌≡◌, ℕ, List, [], map, max, nat_le, IsTrue, Some, None};
 ghost use Rattle.std.specs.List.{list_all};
-ghost use Rattle.machine_core.specs.Machine.{Agent, spot_of, no_hands};
-ghost use Rattle.machine_core.specs.Plain.{with_number, with_entry, last_after};
+ghost use Rattle.ho_events.specs.History.{last_stamp};
+ghost use Rattle.ho_events.specs.declared.entry.Entry.{Entry};
+ghost use Rattle.ho_world.specs.Logs.{grown, paired_on};
+ghost use Rattle.machine_core.specs.Agents.{begun, no_hands, CanEnd, HasEnded};
+ghost use Rattle.machine_core.specs.Kernels.{starts_in, histories_in, IsRunAt};
+ghost use Rattle.machine_core.specs.Plain.{agent_of, anchor_of};
 
-use crate::kernel::{Kernel, Spent};
+use crate::kernel::Kernel;
+use crate::labels::AgentLabels;
 use crate::object::Object;
+use crate::places::{put_back, take_out};
 use crate::reach::Reach;
 use ho_base::numbers::{AgentNo, NoMemory, ObjectNo};
 use ho_base::shape::Shape;
+use ho_events::chronicle::last_stamp_of;
 use ho_events::entry::Entry;
-use phys_frames::home::Home;
+use phys_frames::Home;
 use std::alloc::Global;
 use std::marker::Model;
-use std::mem;
 use std::snapshot::Snapshot;
 
-/// The numbers of the objects in hand, at most one of each kind.
-#[derive(Drop)]
-pub struct Out {
-    pub pool: Option<ObjectNo>,
-    pub registry: Option<ObjectNo>,
-    pub session: Option<ObjectNo>,
-    pub file: Option<ObjectNo>,
-}
-
-/// One agent at work on a kernel's objects, with the entries of its turns.
+/// One agent at work on a kernel's objects, with the entries of its turns. Contracts see the kernel as the work began,
+/// the objects now, and the entries since then.
 pub struct PlainReach {
-    number: u8,
     agent: AgentNo,
+    number: u8,
     shape: Snapshot<Shape>,
     home: Home,
+    /// The objects as the work began.
+    opening: Snapshot<Vec<Option<Object>>>,
+    labels: AgentLabels,
+    base: u64,
     /// The objects by number; none where an object is in hand, and at the numbers of handlers.
     objects: Vec<Option<Object>>,
-    out: Out,
     log: Vec<Entry>,
-    last: u64,
+    /// The object that was given back last without an entry.
+    back: Option<(ObjectNo, Snapshot<Object>)>,
 }
 
 impl Model for PlainReach {
     ghost use Rattle.std.specs.Prelude.{◌-◌};
     ghost use Rattle.std.specs.Vec.{vec_len, vec_capacity};
-    ghost use Rattle.ho_events.specs.History.{paired};
-    ghost use Rattle.machine_core.specs.Machine.{Agent};
-    ghost use Rattle.machine_core.specs.Plain.{hands_of, KeepsObjects, KeepsLog};
+    ghost use Rattle.std.specs.Coded.{codes};
+    ghost use Rattle.std.specs.FinMap as finmap;
+    ghost use Rattle.machine_core.specs.contracts.object.Object as object;
+    ghost use Rattle.machine_core.specs.Kernels.{KeepsKernel};
+    ghost use Rattle.machine_core.specs.Plain.{PlainValue, KeepsWork, back_in};
 
-    ghost Value = { Agent };
+    ghost Value = { PlainValue };
 
-    ghost view = { λ r. record { number = r.agent.0; kernel = r.number; shape = r.shape.value; home = r.home; last = r.last; hands = hands_of r.out r.log.items; log = paired r.log.items; room = vec_capacity r.log - vec_len r.log } };
+    ghost coded = { Prim.hlevel (codes, finmap.code, object.the_row.coded) };
 
-    ghost invariant = { λ r. KeepsObjects r.shape.value r.home r.objects.items r.out r.log.items × KeepsLog r.agent.0 r.number r.last r.log.items };
-}
+    ghost view = { λ r. record { agent = r.agent.0; kernel = record { number = r.number; shape = r.shape.value; home = r.home; objects = r.opening.value.items; labels = r.labels; base = r.base }; objects = r.objects.items; log = r.log.items; back = back_in r.back; room = vec_capacity r.log - vec_len r.log } };
 
-impl PlainReach {
-    /// An agent that begins its work on a cold kernel, with nothing in hand and no entry. It takes no memory.
-    #[tactic(auto, using(crate::proofs::Begins::begins, crate::proofs::Begins::none_paired))]
-    pub fn new(alloc: Global, kernel: Kernel, agent: AgentNo) -> PlainReach
-        ensures number { result.number ≡ agent.0 }
-        ensures kernel { result.kernel ≡ kernel.number }
-        ensures shape { result.shape ≡ kernel.shape }
-        ensures home { result.home ≡ kernel.home }
-        ensures last { result.last ≡ 0 }
-        ensures hands { result.hands ≡ no_hands }
-        ensures log { result.log ≡ [] }
-    {
-        let Kernel {
-            number,
-            shape,
-            home,
-            objects,
-        } = kernel;
-        let out = Out {
-            pool: None,
-            registry: None,
-            session: None,
-            file: None,
-        };
-        PlainReach {
-            number,
-            agent,
-            shape,
-            home,
-            objects,
-            out,
-            log: Vec::new(alloc),
-            last: 0,
-        }
-    }
-
-    /// The objects and the entries of an agent that has nothing in hand. The entries are all of this agent and this
-    /// kernel, in order, each with the stamp that it has to have; and those on each object are a run of its steps.
-    #[tactic(auto, using(crate::proofs::Begins::pool_there, crate::proofs::Begins::is_pool, crate::proofs::Begins::are_left, crate::proofs::Begins::runs))]
-    pub fn log(self) -> (Spent, Vec<Entry>)
-        requires free { self.hands ≡ no_hands }
-        ensures home { result.0 ≡ self.home }
-        ensures log { paired result.1.items ≡ self.log }
-        ensures agent { by self.number result.1.items ≡ result.1.items }
-        ensures kernel { IsTrue (list_all (is_of_kernel self.kernel) result.1.items) }
-        ensures stamped { IsTrue (are_stamped [] [] result.1.items) }
-        ensures rising { IsTrue (rises_from 0 0 result.1.items) }
-        ensures objects { (o : ℕ) → IsTrue (is_run_of_object self.shape o (on o result.1.items)) }
-    {
-        let PlainReach {
-            number: _,
-            agent: _,
-            shape: _,
-            home: _,
-            mut objects,
-            out: _,
-            log,
-            last: _,
-        } = self;
-        match take_out(&mut objects, ObjectNo::POOL) {
-            Object::Pool(pool) => (Spent::new(pool, objects), log),
-            _ => unreachable!(),
-        }
-    }
-}
-
-impl Out {
-    /// Sets the number in hand of an object's kind.
-    fn set(&mut self, object: &Object, number: Option<ObjectNo>)
-        ensures { self.new ≡ with_number (spot_of object.now) number self.old }
-    {
-        match object {
-            Object::Pool(_) => self.pool = number,
-            Object::Registry(_) => self.registry = number,
-            Object::Session(_) => self.session = number,
-            Object::File(_) => self.file = number,
-        }
-    }
-}
-
-/// Takes the object at a number out of its place.
-fn take_out(objects: &mut Vec<Option<Object>>, at: ObjectNo) -> Object
-    requires within { at.0 < vec_len objects.old }
-    requires there { IsSome (slice_index_or objects.old.items at.0 None) }
-    ensures object { slice_index_or objects.old.items at.0 None ≡ Some result }
-    ensures place { objects.new.items ≡ slice_set objects.old.items at.0 None }
-{
-    objects[at.0 as usize].take().unwrap()
-}
-
-/// Puts an object into its empty place.
-pub(crate) fn put_back(objects: &mut Vec<Option<Object>>, at: ObjectNo, object: Object)
-    requires within { at.0 < vec_len objects.old }
-    requires empty { slice_index_or objects.old.items at.0 None ≡ None }
-    ensures place { objects.new.items ≡ slice_set objects.old.items at.0 (Some object) }
-{
-    match mem::replace(&mut objects[at.0 as usize], Some(object)) {
-        None => {}
-        Some(_) => unreachable!(),
-    }
-}
-
-/// Puts an entry, where there is one, at the end of a log, and gives the last stamp.
-fn keep_entry(log: &mut Vec<Entry>, last: u64, entry: Option<Entry>) -> u64
-    requires room { IfSome entry (λ e. vec_len log.old < vec_capacity log.old) }
-    ensures log { log.new.items ≡ with_entry log.old.items entry }
-    ensures last { result ≡ last_after last entry }
-    ensures room { vec_capacity log.old - vec_len log.old ≤ (vec_capacity log.new - vec_len log.new) + 1 }
-{
-    match entry {
-        None => last,
-        Some(entry) => {
-            let stamp = entry.stamp;
-            log.push(entry).unwrap();
-            stamp
-        }
-    }
+    ghost invariant = { λ r. KeepsKernel r.shape.value r.home r.base r.opening.value.items × KeepsWork r.shape.value r.home r.opening.value.items r.objects.items r.log.items };
 }
 
 impl Reach for PlainReach {
-    ghost shown = { λ r. r };
+    ghost shown = { agent_of };
 
     fn begin(&mut self, object: ObjectNo) -> Object {
-        let taken = take_out(&mut self.objects, object);
-        self.out.set(&taken, Some(object));
-        taken
+        take_out(&mut self.objects, object)
     }
 
     fn end(&mut self, object: ObjectNo, state: Object, entry: Option<Entry>) {
-        self.out.set(&state, None);
-        put_back(&mut self.objects, object, state);
-        self.last = keep_entry(&mut self.log, self.last, entry);
+        match entry {
+            Some(entry) => self.enter(object, state, entry),
+            None => self.give(object, state),
+        }
     }
 
     fn room(&mut self, entries: u32) -> Result<(), NoMemory> {
@@ -197,6 +81,96 @@ impl Reach for PlainReach {
     }
 
     fn own(&mut self, entry: Entry) {
-        self.last = keep_entry(&mut self.log, self.last, Some(entry));
+        self.log.push_reserved(entry);
+    }
+}
+
+impl PlainReach {
+    /// An agent that begins its work on a kernel, with nothing in hand and no entry. None of its earlier entries is
+    /// stamped later than the kernel's greatest stamp. It takes no memory.
+    pub fn new(alloc: Global, kernel: Kernel, agent: AgentNo) -> PlainReach
+        ensures agent { result.agent ≡ agent.0 }
+        ensures kernel { result.kernel ≡ kernel }
+        ensures log { (agent_of result).log ≡ [] }
+        ensures hands { (agent_of result).hands ≡ no_hands }
+        ensures told { (agent_of result).told ≡ Some (histories_in kernel.objects) }
+        ensures earlier { IsTrue (list_all (λ p. nat_le p.entry.stamp kernel.base) (agent_of result).earlier) }
+    {
+        let Kernel {
+            number,
+            shape,
+            home,
+            objects,
+            labels,
+            base,
+        } = kernel;
+        PlainReach {
+            agent,
+            number,
+            shape,
+            home,
+            opening: Snapshot::of(&objects),
+            labels,
+            base,
+            objects,
+            log: Vec::new(alloc),
+            back: None,
+        }
+    }
+
+    /// The kernel after the work of an agent that has nothing in hand, and the entries of that work. Each object began
+    /// as before, and its history is what it was with the entries on it. The labels of the agents are as they were when
+    /// the work began, so a round takes them out before.
+    pub fn log(self) -> (Kernel, Vec<Entry>)
+        requires free { (agent_of self).hands ≡ no_hands }
+        ensures anchor { anchor_of result.0 ≡ record (agent_of self).anchor { base = max (agent_of self).anchor.base (last_stamp result.1.items) } }
+        ensures labels { result.0.labels ≡ self.kernel.labels }
+        ensures starts { starts_in result.0.objects ≡ (agent_of self).starts }
+        ensures histories { histories_in result.0.objects ≡ grown (histories_in self.kernel.objects) result.1.items }
+        ensures told { Some (histories_in result.0.objects) ≡ (agent_of self).told }
+        ensures runs { (n : ℕ) → IsRunAt (starts_in result.0.objects n) (histories_in result.0.objects n) }
+        ensures entries { map (λ p. p.entry) (agent_of self).log ≡ result.1.items }
+        ensures log { (f : ℕ → List Entry) → grown f result.1.items ≡ histories_in result.0.objects → paired_on (begun (agent_of self)) f [] result.1.items ≡ (agent_of self).log }
+    {
+        let PlainReach {
+            agent: _,
+            number,
+            shape,
+            home,
+            opening: _,
+            labels,
+            base,
+            objects,
+            log,
+            back: _,
+        } = self;
+        let base = base.max(last_stamp_of(log.as_slice()));
+        let kernel = Kernel {
+            number,
+            shape,
+            home,
+            objects,
+            labels,
+            base,
+        };
+        (kernel, log)
+    }
+
+    /// Puts an object back with an entry.
+    fn enter(&mut self, object: ObjectNo, state: Object, entry: Entry)
+        requires { CanEnd (agent_of self.old) object.0 state (Some entry) ((agent_of self.old).hands object.0) }
+        ensures { HasEnded (agent_of self.old) object.0 (Some entry) ((agent_of self.old).hands object.0) (agent_of self.new) }
+    {
+        put_back(&mut self.objects, object, state);
+        self.log.push_reserved(entry);
+    }
+
+    /// Puts an object back as it was.
+    fn give(&mut self, object: ObjectNo, state: Object)
+        requires { CanEnd (agent_of self.old) object.0 state None ((agent_of self.old).hands object.0) }
+        ensures { HasEnded (agent_of self.old) object.0 None ((agent_of self.old).hands object.0) (agent_of self.new) }
+    {
+        self.back = Some((object, Snapshot::of(&state)));
+        put_back(&mut self.objects, object, state);
     }
 }

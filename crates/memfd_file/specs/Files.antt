@@ -1,16 +1,15 @@
 -- What a file answers.
-use Rattle.std.specs.Prelude.{◌≡◌, ℕ, ◌+◌, ◌-◌, Bool, true, false, ◌&&◌, ◌||◌, ◌==◌, nat_lt, if◌then◌else◌, IsTrue, List, [], ◌∷◌, ◌++◌, map, length, replicate}
+use Rattle.std.specs.Prelude.{◌≡◌, ℕ, ◌+◌, ◌-◌, Bool, true, false, ◌&&◌, ◌||◌, ◌==◌, nat_lt, if◌then◌else◌, IsTrue, List, [], ◌++◌, map, length, take, drop, replicate}
 use Rattle.std.specs.Prelude.{Option, None, Some, MatchOption}
 use Rattle.std.specs.FinMap as finmap
 use Rattle.ho_base.specs.declared.limits.TheConstants.{PAGE_BYTES}
-use Rattle.ho_base.specs.declared.numbers.Pfn.{Pfn}
 use Rattle.phys_frames.specs.Homes.{HomeId}
-use Rattle.phys_frames.specs.Memory.{Memory, FolioValue, zero_page, with_page}
+use Rattle.phys_frames.specs.Memory.{Memory, FolioValue, with_page}
 use Rattle.ho_events.specs.Lists.{firsts}
 use Rattle.ho_events.specs.File.{FileState, grows_frozen, touched_holes, runs_of}
-use Rattle.ho_events.specs.Sequences.{Content, Plain, OfFile}
+use Rattle.ho_events.specs.Contents.{Content, Plain, OfFile}
 use Rattle.ho_events.specs.declared.reply.Reply.{Reply}
-use Rattle.ho_events.specs.declared.reply.Reply.TheVariants.{Ok, OkRuns, KeptRuns, Gone, NoFramesOf, SizeFrozen, NotFinished, AlreadyPinned}
+use Rattle.ho_events.specs.declared.reply.Reply.TheVariants.{Ok, OkBytes, PastEnd, OkRuns, KeptRuns, Gone, NoFramesOf, SizeFrozen, NotFinished, AlreadyPinned}
 use Rattle.memfd_file.specs.FileValues.{FileValue, FileIs}
 use Rattle.memfd_file.specs.declared.facts.Facts.{Facts}
 
@@ -65,6 +64,10 @@ write_answer f off len fills =
     if grows_frozen f (off + len) then SizeFrozen
     else if fills == 0 && nat_lt 0 (length (touched_holes f off len)) then NoFramesOf (length (touched_holes f off len))
     else Ok
+
+-- what a read is answered: `PastEnd` where the range ends past the size; else its bytes
+abbrev pub read_answer : FileState → ℕ → ℕ → Reply
+read_answer f off len = if nat_lt (length f.bytes) (off + len) then PastEnd else OkBytes (take len (drop off f.bytes))
 
 -- the folios that a write with this answer takes, and those that it leaves: all or none
 abbrev pub fills_used : Reply → List FolioValue → List FolioValue

@@ -1,17 +1,17 @@
 //! The parts of a memfd that is there.
 
-ghost use Rattle.std.specs.Prelude.{◌≡◌, ◌+◌, ◌<◌, ◌≤◌, ◌++◌, ◌||◌, [], true, false, None, Some, IsSome, MatchOption, option_map, length, map, vec_len, vec_capacity};
+ghost use Rattle.std.specs.Prelude.{◌≡◌, ◌+◌, ◌<◌, ◌≤◌, ◌++◌, ◌||◌, [], true, false, None, Some, IsSome, MatchOption, option_map, length, take, drop, map, vec_len, vec_capacity};
 ghost use Rattle.ho_base.specs.declared.limits.TheConstants.{PAGE_BYTES};
 ghost use Rattle.phys_frames.specs.Homes.{HomeId};
 ghost use Rattle.ho_events.specs.Lists.{firsts};
-ghost use Rattle.ho_events.specs.Slips.{reply_runs};
+ghost use Rattle.ho_events.specs.Slips.{reply_runs, reply_bytes};
 ghost use Rattle.std.specs.FinMap as finmap;
 ghost use Rattle.ho_base.specs.declared.numbers.Kind.TheVariants.{Memfd};
 ghost use Rattle.ho_events.specs.File.{file_step, new_file, grows_frozen, touched_holes, runs_of};
-ghost use Rattle.ho_events.specs.declared.event.Event.TheVariants.{FileWrite, FilePin, FileUnpin};
+ghost use Rattle.ho_events.specs.declared.event.Event.TheVariants.{FileWrite, FileRead, FilePin, FileUnpin};
 ghost use Rattle.ho_events.specs.declared.reply.Reply.TheVariants.{Ok};
 ghost use Rattle.phys_frames.specs.Memory.{AreFills, AreOf, first_frames};
-ghost use Rattle.memfd_file.specs.Files.{fills_used, fills_left, write_answer, IsPinAnswer, IsUnpinAnswer, folio_of, facts_of, page_of, with_page_home, given_up};
+ghost use Rattle.memfd_file.specs.Files.{fills_used, fills_left, write_answer, read_answer, IsPinAnswer, IsUnpinAnswer, folio_of, facts_of, page_of, with_page_home, given_up};
 ghost use Rattle.memfd_file.specs.FileShown.{bytes_in, content_shown, shown, IsSound, SoundIfThere, AtHome, FolioAtHome, with_fill, put};
 
 use crate::facts::Facts;
@@ -196,6 +196,43 @@ impl Content {
             None => unreachable!(),
         }
         self.size = self.size.max(off + bytes.len() as u32);
+    }
+
+    /// The bytes of a range, or that it ends past the size. The empty list has room for them.
+    #[tactic(auto, using(crate::proofs::Ranges::past_step, crate::proofs::Ranges::range_step))]
+    pub fn read(&self, off: u32, len: u32, out: Vec<u8>) -> Reply
+        requires sound { IsSound self.now }
+        requires empty { out.items ≡ [] }
+        requires room { len ≤ vec_capacity out }
+        ensures answer { result ≡ read_answer (content_shown self.now) off len }
+        ensures step { file_step (Some (content_shown self.now)) (FileRead off len) result ≡ Some (Some (content_shown self.now)) }
+        ensures short { length (reply_bytes result) ≤ len }
+    {
+        if off as u64 + len as u64 > self.size as u64 {
+            Reply::PastEnd
+        } else {
+            Reply::OkBytes(self.range(off, len, out))
+        }
+    }
+
+    /// The bytes of a range that ends within the size, in an empty list that has room for them.
+    fn range(&self, off: u32, len: u32, mut out: Vec<u8>) -> Items<u8>
+        requires sound { IsSound self.now }
+        requires within { off + len ≤ self.now.size }
+        requires empty { out.items ≡ [] }
+        requires room { len ≤ vec_capacity out }
+        ensures bytes { result ≡ take len (drop off (content_shown self.now).bytes) }
+        ensures short { length result ≤ len }
+    {
+        match &self.folio {
+            None => Items::from_vec(out),
+            Some(folio) => {
+                let end = (off + len) as usize;
+                out.extend_from_slice(&folio.bytes()[off as usize..end])
+                    .unwrap();
+                Items::from_vec(out)
+            }
+        }
     }
 
     /// Pins the file, or says why not. The list has room for the file's runs.

@@ -6,11 +6,12 @@ ghost use Rattle.ho_base.specs.declared.limits.TheConstants.{PAGE_BYTES};
 ghost use Rattle.ho_base.specs.declared.numbers.Kind.TheVariants.{Memfd};
 ghost use Rattle.ho_events.specs.History.{last_stamp, file_from};
 ghost use Rattle.ho_events.specs.File.{touched_holes};
-ghost use Rattle.ho_events.specs.Sequences.{object_at, file_content};
+ghost use Rattle.ho_events.specs.Contents.{file_content};
+ghost use Rattle.ho_events.specs.Places.{object_at};
 ghost use Rattle.ho_events.specs.Slips.{entry_at, reply_runs};
-ghost use Rattle.ho_events.specs.declared.event.Event.TheVariants.{FileInit, FileWrite, FilePin, FileUnpin};
+ghost use Rattle.ho_events.specs.declared.event.Event.TheVariants.{FileInit, FileWrite, FileRead, FilePin, FileUnpin};
 ghost use Rattle.ho_events.specs.declared.reply.Reply.TheVariants.{Ok};
-ghost use Rattle.memfd_file.specs.Files.{FileHas, facts_of, content_told, run_at, is_opened, is_pinned, fills_used, fills_left, write_answer, IsPinAnswer, IsUnpinAnswer, given_up, with_file_home};
+ghost use Rattle.memfd_file.specs.Files.{FileHas, facts_of, content_told, run_at, is_opened, is_pinned, fills_used, fills_left, write_answer, read_answer, IsPinAnswer, IsUnpinAnswer, given_up, with_file_home};
 ghost use Rattle.phys_frames.specs.Memory.{AreFills, AreOf, first_frames};
 ghost use Rattle.memfd_file.specs.FileValues.{FileIs};
 
@@ -238,6 +239,38 @@ impl FileObject {
             self.number,
             at,
             event,
+            reply,
+            copy,
+            value,
+        )
+    }
+
+    /// Reads a range of bytes: `PastEnd` exactly where it ends past the size, else the bytes. The file stays as it is.
+    pub fn read(&mut self, slip: Slip, off: u32, len: u32) -> Turned<Reply>
+        requires present { FileIs self.old IsSome }
+        requires slip_bytes { len ≤ slip.room.reply_bytes }
+        requires room { 0 < self.old.room }
+        requires agent_stamp { slip.at.last < 2 ^ 63 }
+        requires object_stamp { last_stamp self.old.history < 2 ^ 63 }
+        ensures exact { FileHas self.old (λ f. result.value ≡ read_answer f off len) }
+        ensures told { result.entry ≡ entry_at slip.at (last_stamp self.old.history) (object_at self.old.number) (FileRead off len) result.value }
+        ensures kept { self.new.history ≡ self.old.history ++ result.entry ∷ [] }
+        ensures number { self.new.number ≡ self.old.number }
+        ensures start { self.new.start ≡ self.old.start }
+        ensures home { self.new.home ≡ self.old.home }
+        ensures room { self.new.room + 1 ≡ self.old.room }
+        ensures run { IsTrue (is_some (file_from self.new.start self.new.history)) }
+    {
+        let (at, own, copy, value) = slip.open();
+        let reply = match &self.content {
+            None => unreachable!(),
+            Some(content) => content.read(off, len, own.reply_bytes),
+        };
+        append_turn(
+            &mut self.history,
+            self.number,
+            at,
+            Event::FileRead(off, len),
             reply,
             copy,
             value,

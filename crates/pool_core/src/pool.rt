@@ -11,7 +11,7 @@ ghost use Rattle.phys_frames.specs.Memory.{AllHome, IsHome};
 ghost use Rattle.ho_events.specs.Lists.{firsts};
 ghost use Rattle.ho_events.specs.History.{last_stamp, pool_from};
 ghost use Rattle.ho_events.specs.Pool.{can_take, can_give, can_unmark, cold_pool, free_runs, is_owned};
-ghost use Rattle.ho_events.specs.Sequences.{object_at};
+ghost use Rattle.ho_events.specs.Places.{object_at};
 ghost use Rattle.ho_events.specs.Slips.{HasRoomFor, entry_at, reply_runs};
 ghost use Rattle.ho_events.specs.declared.event.Event.TheVariants.{PoolTake, PoolGive, PoolMark, PoolUnmark};
 ghost use Rattle.ho_events.specs.declared.reply.Reply.TheVariants.{Ok, Got, NoFrames};

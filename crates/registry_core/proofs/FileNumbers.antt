@@ -1,5 +1,5 @@
 -- Flags of file numbers, as sets.
-use Rattle.std.proofs.Common.{◌≡◌, ℕ, ◌<◌, ◌≤◌, ◌&&◌, ◌||◌, ◌==◌, Bool, true, false, cond, not, nat_lt, List, [], ◌∷◌, ◌++◌, length, replicate, slice_index_or, slice_set, refl, ap, sym, ◌∙◌, arith, zero, suc, Equal}
+use Rattle.std.proofs.Common.{◌≡◌, ℕ, ◌<◌, ◌≤◌, ◌&&◌, ◌||◌, ◌==◌, Bool, true, false, cond, not, nat_lt, List, [], ◌∷◌, length, replicate, slice_index_or, slice_set, refl, ap, sym, ◌∙◌, arith, zero, suc}
 use Rattle.std.specs.List.{list_any}
 use Rattle.std.specs.Ordering.{nat_cmp, eq_by_cmp}
 use Rattle.std.specs.Cmp.{nat_cmp_total}
@@ -10,6 +10,7 @@ use Rattle.std.proofs.lemmas.List.Folds.{list_any-append}
 use Rattle.ho_base.specs.declared.limits.TheConstants.{FILES}
 use Rattle.ho_events.specs.Lists.{upto}
 use Rattle.ho_events.proofs.Ties.{tied_is}
+use Rattle.registry_core.proofs.UsedFlags.{flag_at}
 use Rattle.registry_core.specs.RegistryShown.{numbers_of}
 
 no_flag : (n f : ℕ) → slice_index_or (replicate n false) f false ≡ false
@@ -54,9 +55,6 @@ numbers_none used h =
     count n = grind (arith, common_steps)
 
 -- a flag set or cleared
-flag_at : (used : List Bool) (f q : ℕ) (v : Bool) → f < length used → slice_index_or (slice_set used f v) q false ≡ cond (f == q) v (slice_index_or used q false)
-flag_at used f q v h = grind (arith, common_steps, nat_tests)
-
 set_or : (b c : Bool) → (b || c) ≡ cond b true c
 set_or true c = refl
 set_or false c = refl
@@ -65,8 +63,8 @@ clear_and : (b c : Bool) → (not b && c) ≡ cond b false c
 clear_and true c = refl
 clear_and false c = refl
 
-pub length_set : (used : List Bool) (f : ℕ) (v : Bool) → length used ≡ FILES → length (slice_set used f v) ≡ FILES
-length_set used f v count = grind (arith, common_steps, count)
+pub length_set : (used : List Bool) (f : ℕ) (v : Bool) (n : ℕ) → length used ≡ n → length (slice_set used f v) ≡ n
+length_set used f v n count = grind (arith, common_steps, count)
 
 pub numbers_set : (used : List Bool) (f : ℕ) → length used ≡ FILES → f < FILES → finset.insert (numbers_of used) f ≡ numbers_of (slice_set used f true)
 numbers_set used f count less =
@@ -74,7 +72,7 @@ numbers_set used f count less =
     finset.same_set nat_cmp_total finset.nat_cmp-IsAntisymmetric _ _
     (λ q. finset.contains-insert nat_cmp_total (numbers_of used) f q
     ∙ set_or (eq_by_cmp nat_cmp q f) (finset.contains (numbers_of used) q) ∙ ap (λ b. cond b true (finset.contains (numbers_of used) q)) (tied_is q f)
-    ∙ ap (cond (f == q) true) (numbers_at used q count) ∙ sym (numbers_at (slice_set used f true) q (length_set used f true count) ∙ flag_at used f q true inside))
+    ∙ ap (cond (f == q) true) (numbers_at used q count) ∙ sym (numbers_at (slice_set used f true) q (length_set used f true FILES count) ∙ flag_at used f q true inside))
 
 pub numbers_clear : (used : List Bool) (f : ℕ) → length used ≡ FILES → f < FILES → finset.remove (numbers_of used) f ≡ numbers_of (slice_set used f false)
 numbers_clear used f count less =
@@ -82,4 +80,4 @@ numbers_clear used f count less =
     finset.same_set nat_cmp_total finset.nat_cmp-IsAntisymmetric _ _
     (λ q. finset.contains-remove nat_cmp_total (numbers_of used) f q
     ∙ clear_and (eq_by_cmp nat_cmp q f) (finset.contains (numbers_of used) q) ∙ ap (λ b. cond b false (finset.contains (numbers_of used) q)) (tied_is q f)
-    ∙ ap (cond (f == q) false) (numbers_at used q count) ∙ sym (numbers_at (slice_set used f false) q (length_set used f false count) ∙ flag_at used f q false inside))
+    ∙ ap (cond (f == q) false) (numbers_at used q count) ∙ sym (numbers_at (slice_set used f false) q (length_set used f false FILES count) ∙ flag_at used f q false inside))

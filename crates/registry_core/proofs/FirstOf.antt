@@ -24,6 +24,18 @@ module _ {A : Type 0} (p : A → Bool) where
         | false ↦ λ e. found_last xs y e
       ] h
 
+-- what is found passes
+pub first_passes : {A : Type 0} → (p : A → Bool) → (xs : List A) → (x : A) → find p xs ≡ Some x → p x ≡ true
+first_passes p [] x h = cc
+first_passes p (y ∷ xs) x h =
+    elim (p y) as (λ b. p y ≡ b → cond b (Some y) (find p xs) ≡ Some x → p x ≡ true) [
+      | true ↦ λ t e. ap p (sym (same y x e)) ∙ t
+      | false ↦ λ f e. first_passes p xs x e
+    ] refl h
+  where
+    same : {A : Type 0} (a b : A) → Some a ≡ Some b → a ≡ b
+    same a b e = cc
+
 -- tests that agree find the same
 pub found_alike : {A : Type 0} → (p q : A → Bool) → ((x : A) → p x ≡ q x) → (xs : List A) → find p xs ≡ find q xs
 found_alike p q same [] = refl

@@ -4,3 +4,5 @@ pub mod RegistryAnswers
 pub mod RegistryRuns
 pub mod RegistrySteps
 pub mod SlotMaps
+pub mod TakenSlots
+pub mod UsedFlags

@@ -1,9 +1,8 @@
 -- What the registry answers, by what stands against it.
-use Rattle.std.proofs.Common.{◌≡◌, ℕ, ◌&&◌, ◌==◌, true, false, List, ap, sym, ◌∙◌, is_some, is_none, not, arith}
+use Rattle.std.proofs.Common.{◌≡◌, ℕ, ◌&&◌, true, false, List, ap, sym, ◌∙◌, is_some, is_none, not}
 use Rattle.std.specs.Prelude.{Option, None, Some, option_map}
 use Rattle.std.specs.Option.{MatchOption}
 use Rattle.std.specs.FinMap as finmap
-use Rattle.std.proofs.lemmas.Bool.Decides.{nat_tests}
 use Rattle.ho_base.specs.declared.numbers.SlotNo.{SlotNo}
 use Rattle.ho_base.specs.declared.numbers.FileNo.{FileNo}
 use Rattle.ho_events.specs.Lists.{only}
@@ -11,15 +10,13 @@ use Rattle.ho_events.specs.Registry.{RegistryState, least_free_slot, least_free_
 use Rattle.ho_events.specs.declared.event.Event.TheVariants.{RegCreate, RegFindOut, RegNewFile}
 use Rattle.ho_events.specs.declared.reply.Reply.TheVariants.{OkSlot, OkFile, FilesFull, NameTaken, SessionsFull, NoSession}
 use Rattle.registry_core.proofs.RegistryRuns.{told}
+use Rattle.registry_core.proofs.TakenSlots.{eqb_same}
 use Rattle.registry_core.specs.Registries.{create_answer, find_answer, file_answer}
 
 -- two facts of one state
-pub both : {P R : RegistryState → Type 0} → (Q : RegistryState → Type 0) → (o : Option RegistryState) → ((s : RegistryState) → P s → R s → Q s) → MatchOption o ⊥ P → MatchOption o ⊥ R → MatchOption o ⊥ Q
+both : {P R : RegistryState → Type 0} → (Q : RegistryState → Type 0) → (o : Option RegistryState) → ((s : RegistryState) → P s → R s → Q s) → MatchOption o ⊥ P → MatchOption o ⊥ R → MatchOption o ⊥ Q
 both Q None so p r = p
 both Q (Some s) so p r = so s p r
-
-pub eqb_same : (n : ℕ) → (n == n) ≡ true
-eqb_same n = grind (arith, nat_tests)
 
 -- a new name: taken
 pub create_taken : (o : Option RegistryState) → (name : List ℕ) → (found : Option SlotNo) → MatchOption o ⊥ (λ s. finmap.get s.outgoing name ≡ option_map (λ x. x.0) found) → is_some found ≡ true → MatchOption o ⊥ (λ s. registry_step s (RegCreate name) NameTaken ≡ Some s)

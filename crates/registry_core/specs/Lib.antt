@@ -1,3 +1,5 @@
+pub mod NameSlots
 pub mod Registries
 pub mod RegistryShown
 pub mod RegistryValues
+pub mod UsedNumbers

@@ -1,6 +1,8 @@
 -- What the registry answers.
 use Rattle.std.specs.Prelude.{ℕ, ◌<◌, List, IsTrue}
 use Rattle.std.specs.Prelude.{Option, None, Some}
+use Rattle.std.specs.Cmp.Lexicographic.{slice_cmp}
+use Rattle.std.specs.Ordering.{nat_cmp}
 use Rattle.std.specs.FinMap as finmap
 use Rattle.std.specs.FinSet as finset
 use Rattle.ho_base.specs.declared.limits.TheConstants.{OUT_SLOTS, FILES}
@@ -23,6 +25,11 @@ find_answer (Some slot) = OkSlot (record { 0 = slot })
 abbrev pub file_answer : Option ℕ → Reply
 file_answer None = FilesFull
 file_answer (Some f) = OkFile (record { 0 = f })
+
+-- the ready names after a new name was answered: it is one of them once it has a slot
+abbrev pub ready_after : List ℕ → Reply → finset.FinSet (slice_cmp nat_cmp) → finset.FinSet (slice_cmp nat_cmp)
+ready_after name (OkSlot slot) ready = finset.insert ready name
+ready_after name reply ready = ready
 
 -- a name is outgoing
 abbrev pub IsOutgoing : List ℕ → RegistryState → Type 0

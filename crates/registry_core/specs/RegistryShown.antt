@@ -1,71 +1,83 @@
 -- How the parts of the registry show its state.
-use Rattle.std.specs.Prelude.{◌≡◌, ℕ, Bool, true, false, ◌&&◌, ◌==◌, nat_lt, List, [], ◌∷◌, map, length, slice_index_or, is_none, IsTrue}
-use Rattle.std.specs.Prelude.{Some}
-use Rattle.std.specs.List.{list_any, list_all}
+use Rattle.std.specs.Prelude.{◌≡◌, ℕ, Bool, false, List, [], ◌∷◌, length, slice_index_or}
+use Rattle.std.specs.Prelude.{Option, Some}
+use Rattle.std.specs.List.{IsDistinct}
+use Rattle.std.specs.Map.{keys_of}
+use Rattle.std.specs.Option.{option_map_or}
 use Rattle.std.specs.Ordering.{nat_cmp}
+use Rattle.std.specs.Cmp.Lexicographic.{slice_cmp}
 use Rattle.std.specs.FinMap as finmap
 use Rattle.std.specs.FinSet as finset
 use Rattle.ho_base.specs.declared.limits.TheConstants.{OUT_SLOTS, FILES}
 use Rattle.ho_base.specs.declared.numbers.SlotNo.{SlotNo}
-use Rattle.ho_events.specs.ByName.{among}
-use Rattle.ho_events.specs.Lists.{upto}
-use Rattle.ho_events.specs.Registry.{RegistryState, Slots}
+use Rattle.ho_events.specs.Lists.{same_bytes, upto}
+use Rattle.ho_events.specs.Registry.{RegistryState, is_used, Slots as SlotMap}
 use Rattle.ho_events.specs.History.{registry_from}
 use Rattle.ho_events.specs.declared.entry.Entry.{Entry}
 use Rattle.registry_core.specs.declared.parts.Parts.{Parts}
+use Rattle.registry_core.specs.declared.parts.Slots.{Slots}
 
--- the lists of the parts: the outgoing, the waiting and the opened names with their slots, and for each file number
--- whether it is in use
-pub record Lists : Type 0 where
-  pub outgoing : List (List ℕ × SlotNo)
-  pub waiting : List (List ℕ × SlotNo)
-  pub opened : List (List ℕ × SlotNo)
-  pub used : List Bool
+-- what the parts hold: the ready names with their slots, and for each outgoing slot whether it has a name, for each
+-- file number whether it is in use
+pub record Held : Type 0 where
+  pub names : List (List ℕ × Slots)
+  pub taken : List Bool
+  pub files : List Bool
 
-abbrev pub lists_of : Parts → Lists
-lists_of p = record {
-  outgoing = p.outgoing.items;
-  waiting = p.waiting.items;
-  opened = p.opened.items;
-  used = p.used.items;
+abbrev pub held_by : Parts → Held
+held_by p = record {
+  names = p.names.entries;
+  taken = p.taken;
+  files = p.files;
 }
 
--- a name with the number of its slot
-abbrev pub numbered : List ℕ × SlotNo → List ℕ × ℕ
-numbered e = (e.0, e.1.0)
+-- a name with its slot, where it has one, before others
+abbrev pub with_slot : List ℕ → Option SlotNo → List (List ℕ × ℕ) → List (List ℕ × ℕ)
+with_slot name slot others = option_map_or (λ slot. (name, slot.0) ∷ others) slot others
 
--- the map from names to slots that a list shows;  the set of numbers that flags show
-unfoldable pub slots_of : List (List ℕ × SlotNo) → Slots
-slots_of names = finmap.from_entries (map numbered names)
+-- the names that have a slot of one kind, with its number
+abbrev pub numbered : (Slots → Option SlotNo) → List (List ℕ × Slots) → List (List ℕ × ℕ)
+numbered kind [] = []
+numbered kind (e ∷ names) = with_slot e.0 (kind e.1) (numbered kind names)
+
+-- the map from names to their slots of one kind;  the set of numbers that flags show;  the set of names
+unfoldable pub slots_of : (Slots → Option SlotNo) → List (List ℕ × Slots) → SlotMap
+slots_of kind names = finmap.from_entries (numbered kind names)
 
 unfoldable pub numbers_of : List Bool → finset.FinSet nat_cmp
 numbers_of used = finset.retain (finset.from_list (upto FILES)) (λ f. slice_index_or used f false)
 
--- the state that the lists show
-abbrev pub shown : Lists → RegistryState
+unfoldable pub names_of : List (List ℕ) → finset.FinSet (slice_cmp nat_cmp)
+names_of names = finset.from_list names
+
+-- the outgoing slot, the slot of a waiting and of an opened name
+abbrev pub outgoing_slot : Slots → Option SlotNo
+outgoing_slot slots = slots.outgoing
+
+abbrev pub waiting_slot : Slots → Option SlotNo
+waiting_slot slots = slots.waiting
+
+abbrev pub opened_slot : Slots → Option SlotNo
+opened_slot slots = slots.opened
+
+-- the state that the parts show
+abbrev pub shown : Held → RegistryState
 shown p = record {
-  outgoing = slots_of p.outgoing;
-  waiting = slots_of p.waiting;
-  opened = slots_of p.opened;
-  files = numbers_of p.used;
+  outgoing = slots_of outgoing_slot p.names;
+  waiting = slots_of waiting_slot p.names;
+  opened = slots_of opened_slot p.names;
+  files = numbers_of p.files;
 }
 
--- a name has this slot
-abbrev pub slot_taken : List (List ℕ × SlotNo) → ℕ → Bool
-slot_taken names slot = list_any (λ e. e.1.0 == slot) names
+-- no two names have one slot
+abbrev pub AreApart : SlotMap → Type 0
+AreApart slots = (a b : List ℕ) (k : ℕ) → finmap.get slots a ≡ Some k → finmap.get slots b ≡ Some k → a ≡ b
 
--- each name has an outgoing slot
-abbrev pub have_out_slots : List (List ℕ × SlotNo) → Bool
-have_out_slots names = list_all (λ e. nat_lt e.1.0 OUT_SLOTS) names
-
--- no name stands twice
-abbrev pub are_apart : List (List ℕ × SlotNo) → Bool
-are_apart [] = true
-are_apart (e ∷ names) = is_none (among e.0 names) && are_apart names
-
--- the history is a run from the start to the state that the lists show
-pub record KeepsRegistry (start : RegistryState) (history : List Entry) (p : Lists) : Type 0 where
+-- the history is a run from the start to the state that the parts show
+pub record KeepsRegistry (start : RegistryState) (history : List Entry) (p : Held) : Type 0 where
   pub replayed : registry_from start history ≡ Some (shown p)
-  pub flags : length p.used ≡ FILES
-  pub slots : IsTrue (have_out_slots p.outgoing)
-  pub apart : IsTrue (are_apart p.outgoing)
+  pub unique : IsDistinct same_bytes (keys_of p.names)
+  pub slot_count : length p.taken ≡ OUT_SLOTS
+  pub file_count : length p.files ≡ FILES
+  pub told : (k : ℕ) → is_used (slots_of outgoing_slot p.names) k ≡ slice_index_or p.taken k false
+  pub apart : AreApart (slots_of outgoing_slot p.names)

@@ -1,81 +1,103 @@
-//! The parts of the registry: lists of names with their slots, and flags of file numbers.
+//! The parts of the registry: the slots of names, and which slots and file numbers are in use.
 
-ghost use Rattle.std.specs.Prelude.{◌≡◌, ◌<◌, ◌≤◌, IfOk, IfSome, length, not, filter, option_map, replicate, false, slice_index_or};
-ghost use Rattle.std.specs.List.{find as find_in};
-ghost use Rattle.std.specs.Vec.{vec_len, vec_capacity};
+ghost use Rattle.std.specs.Prelude.{◌≡◌, ◌+◌, ◌<◌, ◌≤◌, IfOk, IsSome, Some, None, [], false, true, length, replicate, slice_set};
 ghost use Rattle.ho_base.specs.declared.limits.TheConstants.{OUT_SLOTS, FILES};
-ghost use Rattle.ho_events.specs.Lists.{same_bytes, upto};
-ghost use Rattle.registry_core.specs.RegistryShown.{slot_taken};
+ghost use Rattle.ho_events.specs.Lists.{same_bytes};
+ghost use Rattle.indexmap.specs.IndexMap.{spare, keys, get, IsUnique, Updates};
+ghost use Rattle.registry_core.specs.NameSlots.{slots_at, with_outgoing};
 
+use crate::numbers::Numbers;
 use ho_base::limits::{FILES, OUT_SLOTS};
 use ho_base::name::Name;
-use ho_base::numbers::{FileNo, NoMemory, SlotNo};
+use ho_base::numbers::{NoMemory, SlotNo};
+use indexmap::IndexMap;
 use std::alloc::Global;
+
+/// The slots of a name, each of which it may have or not.
+#[derive(Clone, Copy)]
+pub struct Slots {
+    /// The slot of the name among the outgoing ones.
+    pub(crate) outgoing: Option<SlotNo>,
+    /// The slot in which it waits to be opened.
+    pub(crate) waiting: Option<SlotNo>,
+    /// The slot in which it was opened.
+    pub(crate) opened: Option<SlotNo>,
+}
 
 /// What shows the registry's state.
 #[derive(Drop)]
 pub struct Parts {
-    /// The outgoing names with their slots, oldest first.
-    pub(crate) outgoing: Vec<(Name, SlotNo)>,
-    /// The names that wait to be opened, with their slots.
-    pub(crate) waiting: Vec<(Name, SlotNo)>,
-    /// The opened names with their slots.
-    pub(crate) opened: Vec<(Name, SlotNo)>,
-    /// For each file number whether it is in use.
-    pub(crate) used: Vec<bool>,
+    /// The slots of each ready name. A name stays in it, so that its slots are changed without memory.
+    pub(crate) names: IndexMap<Name, Slots>,
+    /// Which outgoing slots have a name.
+    pub(crate) taken: Numbers,
+    /// Which file numbers are in use.
+    pub(crate) files: Numbers,
 }
 
-/// A flag for each file number: none is in use.
-pub(crate) fn unused(alloc: Global) -> Result<Vec<bool>, NoMemory>
-    ensures { IfOk result (λ used. used.items ≡ replicate FILES false) }
-{
-    match Vec::from_elem(alloc, false, FILES as usize) {
-        Ok(used) => Ok(used),
-        Err(_) => Err(NoMemory),
+impl Parts {
+    /// No name is ready, and no number in use; no memory where it can't be had.
+    pub(crate) fn cold(alloc: Global) -> Result<Parts, NoMemory>
+        ensures names { IfOk result (λ p. p.names.entries ≡ []) }
+        ensures unique { IfOk result (λ p. IsUnique same_bytes p.names) }
+        ensures taken { IfOk result (λ p. p.taken ≡ replicate OUT_SLOTS false) }
+        ensures files { IfOk result (λ p. p.files ≡ replicate FILES false) }
+    {
+        let taken = Numbers::all_free(alloc, OUT_SLOTS as usize)?;
+        let files = Numbers::all_free(alloc, FILES as usize)?;
+        Ok(Parts {
+            names: IndexMap::new(alloc),
+            taken,
+            files,
+        })
     }
-}
 
-/// Takes a name out; the others stay in order.
-pub(crate) fn remove(names: &mut Vec<(Name, SlotNo)>, name: Name)
-    ensures items { names.new.items ≡ filter (λ e. not (same_bytes e.0 name)) names.old.items }
-    ensures capacity { vec_capacity names.new ≡ vec_capacity names.old }
-    ensures len { vec_len names.new ≤ vec_len names.old }
-{
-    names.retain(|e| e.0 != name);
-}
-
-/// Whether a name has this slot.
-pub(crate) fn has_slot(names: &[(Name, SlotNo)], slot: u8) -> bool
-    ensures { result ≡ slot_taken names.now slot }
-{
-    names.iter().any(|e| e.1.0 == slot)
-}
-
-/// The least outgoing slot that no name has.
-#[tactic(auto, using(crate::proofs::FirstOf::first_at, crate::proofs::FirstOf::first_none))]
-pub(crate) fn free_slot(names: &[(Name, SlotNo)]) -> Option<SlotNo>
-    ensures value { find_in (λ k. not (slot_taken names.now k)) (upto OUT_SLOTS) ≡ option_map (λ x. x.0) result }
-    ensures within { IfSome result (λ x. x.0 < OUT_SLOTS) }
-{
-    for slot in 0..OUT_SLOTS as u8 {
-        if !has_slot(names, slot) {
-            return Some(SlotNo(slot));
+    /// The slots of a name; none where the name isn't ready.
+    pub(crate) fn slots(&self, name: Name) -> Slots
+        ensures { result ≡ slots_at self.now.names.entries name }
+    {
+        match self.names.get(&name) {
+            Some(slots) => *slots,
+            None => Slots {
+                outgoing: None,
+                waiting: None,
+                opened: None,
+            },
         }
     }
-    None
-}
 
-/// The least file number whose flag isn't set.
-#[tactic(auto, using(crate::proofs::FirstOf::first_at, crate::proofs::FirstOf::first_none))]
-pub(crate) fn free_number(used: &[bool]) -> Option<FileNo>
-    requires { length used.now ≡ FILES }
-    ensures value { find_in (λ k. not (slice_index_or used.now k false)) (upto FILES) ≡ option_map (λ x. x.0) result }
-    ensures within { IfSome result (λ x. x.0 < FILES) }
-{
-    for number in 0..FILES as u16 {
-        if !used[number as usize] {
-            return Some(FileNo(number));
-        }
+    /// Makes a name outgoing in this slot, and ready where it wasn't yet; its other slots stay.
+    pub(crate) fn put_out(&mut self, name: Name, slot: SlotNo)
+        requires within { slot.0 < length self.old.taken }
+        requires room { 0 < spare self.old.names }
+        ensures names { Updates same_bytes self.old.names self.new.names name (Some (with_outgoing (Some slot) (slots_at self.old.names.entries name))) }
+        ensures unique { IsUnique same_bytes self.new.names }
+        ensures spare { spare self.old.names ≤ spare self.new.names + 1 }
+        ensures taken { self.new.taken ≡ slice_set self.old.taken slot.0 true }
+        ensures files { self.new.files ≡ self.old.files }
+    {
+        let slots = Slots {
+            outgoing: Some(slot),
+            ..self.slots(name)
+        };
+        self.names.insert(name, slots).unwrap();
+        self.taken.take(slot.0 as usize);
     }
-    None
+
+    /// Ends a name that is outgoing in this slot: it stays ready, and its other slots stay.
+    pub(crate) fn end_out(&mut self, name: Name, slot: SlotNo)
+        requires within { slot.0 < length self.old.taken }
+        requires ready { IsSome (get same_bytes self.old.names name) }
+        ensures names { Updates same_bytes self.old.names self.new.names name (Some (with_outgoing None (slots_at self.old.names.entries name))) }
+        ensures keys { keys self.new.names ≡ keys self.old.names }
+        ensures unique { IsUnique same_bytes self.new.names }
+        ensures spare { spare self.new.names ≡ spare self.old.names }
+        ensures taken { self.new.taken ≡ slice_set self.old.taken slot.0 false }
+        ensures files { self.new.files ≡ self.old.files }
+    {
+        if let Some(slots) = self.names.get_mut(&name) {
+            slots.outgoing = None;
+        }
+        self.taken.give(slot.0 as usize);
+    }
 }

@@ -2,23 +2,23 @@
 
 ghost use Rattle.std.specs.Prelude.{◌≡◌, ◌+◌, ◌<◌, ◌≤◌, ◌^◌, ◌↔◌, ◌++◌, ◌∷◌, [], None, Some, OnOk, IfOk, IfSome, IsTrue, is_some, length, not, filter, option_map, replicate, false, slice_index_or};
 ghost use Rattle.std.specs.FinMap as finmap;
+ghost use Rattle.std.specs.FinSet as finset;
 ghost use Rattle.ho_base.specs.declared.limits.TheConstants.{OUT_SLOTS, FILES};
 ghost use Rattle.ho_base.specs.Objects.{registry_no};
 ghost use Rattle.ho_events.specs.History.{last_stamp, registry_from};
 ghost use Rattle.ho_events.specs.Registry.{cold_registry, least_free_slot, least_free_file, registry_step};
-ghost use Rattle.ho_events.specs.Sequences.{object_at};
+ghost use Rattle.ho_events.specs.Places.{object_at};
 ghost use Rattle.ho_events.specs.Slips.{entry_at};
 ghost use Rattle.ho_events.specs.declared.event.Event.TheVariants.{RegCreate, RegFindOut, RegDropName, RegNewFile, RegFreeFile};
 ghost use Rattle.ho_events.specs.declared.reply.Reply.TheVariants.{Ok, OkSlot, OkFile};
 ghost use Rattle.ho_events.specs.PlainTurns.{EventIsPlain, ReplyIsPlain};
-ghost use Rattle.registry_core.specs.Registries.{create_answer, find_answer, file_answer, IsOutgoing, IsInUse, IsWithin};
-ghost use Rattle.registry_core.specs.RegistryValues.{RegistryIs};
+ghost use Rattle.registry_core.specs.Registries.{create_answer, find_answer, file_answer, ready_after, IsOutgoing, IsInUse, IsWithin};
+ghost use Rattle.registry_core.specs.RegistryValues.{RegistryIs, IsReady};
 
-use crate::parts::{Parts, free_number, free_slot, remove, unused};
+use crate::parts::Parts;
 use ho_base::name::Name;
 use ho_base::numbers::{FileNo, NoMemory, ObjectNo, SlotNo};
 use ho_events::append::append_plain_turn;
-use ho_events::by_name::find;
 use ho_events::chronicle::{Recorded, last_stamp_of};
 use ho_events::entry::Entry;
 use ho_events::event::Event;
@@ -29,7 +29,9 @@ use std::marker::Model;
 use std::snapshot::Snapshot;
 
 /// The registry with the history of all turns on it. Contracts see its state before the first of these turns, that
-/// history, and how many more entries fit; its state is where the history leads from there.
+/// history, which names are ready, and how many more entries fit; its state is where the history leads from there.
+///
+/// A name is ready once it has a slot, and stays so from then on: its slots are changed without memory.
 #[derive(Drop)]
 pub struct Registry {
     start: Snapshot<Parts>,
@@ -42,42 +44,34 @@ impl Model for Registry {
     ghost use Rattle.std.specs.FinMap as finmap;
     ghost use Rattle.std.specs.Prelude.{◌-◌, min};
     ghost use Rattle.std.specs.Vec.{vec_len, vec_capacity};
+    ghost use Rattle.indexmap.specs.IndexMap.{keys, spare};
     ghost use Rattle.registry_core.specs.RegistryValues.{RegistryValue};
-    ghost use Rattle.registry_core.specs.RegistryShown.{lists_of, shown, KeepsRegistry};
+    ghost use Rattle.registry_core.specs.RegistryShown.{held_by, names_of, shown, KeepsRegistry};
 
     ghost Value = { RegistryValue };
 
     ghost coded = { Prim.hlevel (codes, finmap.code) };
 
-    ghost view = { λ r. record { start = shown (lists_of r.start.value); history = r.history.items; room = min (vec_capacity r.history - vec_len r.history) (vec_capacity r.parts.outgoing - vec_len r.parts.outgoing) } };
+    ghost view = { λ r. record { start = shown (held_by r.start.value); history = r.history.items; ready = names_of (keys r.parts.names); room = min (vec_capacity r.history - vec_len r.history) (spare r.parts.names) } };
 
-    ghost invariant = { λ r. KeepsRegistry (shown (lists_of r.start.value)) r.history.items (lists_of r.parts) };
+    ghost invariant = { λ r. KeepsRegistry (shown (held_by r.start.value)) r.history.items (held_by r.parts) };
 }
 
 impl Registry {
     /// A registry that begins cold, with no name, no file number in use and no history; no memory where it can't be
     /// had.
-    #[tactic(auto, using(crate::proofs::RegistryRuns::empty_keeps, crate::proofs::RegistryRuns::cold_shown))]
+    #[tactic(auto, using(crate::proofs::RegistryRuns::empty_keeps, crate::proofs::RegistryRuns::cold_shown, crate::proofs::SlotMaps::no_names))]
     pub fn empty(alloc: Global) -> Result<Registry, NoMemory>
         ensures start { IfOk result (λ r. r.start ≡ cold_registry) }
         ensures history { IfOk result (λ r. r.history ≡ []) }
+        ensures ready { IfOk result (λ r. r.ready ≡ finset.empty) }
     {
-        match unused(alloc) {
-            Ok(used) => {
-                let parts = Parts {
-                    outgoing: Vec::new(alloc),
-                    waiting: Vec::new(alloc),
-                    opened: Vec::new(alloc),
-                    used,
-                };
-                Ok(Registry {
-                    start: Snapshot::of(&parts),
-                    parts,
-                    history: Vec::new(alloc),
-                })
-            }
-            Err(NoMemory) => Err(NoMemory),
-        }
+        let parts = Parts::cold(alloc)?;
+        Ok(Registry {
+            start: Snapshot::of(&parts),
+            parts,
+            history: Vec::new(alloc),
+        })
     }
 
     /// Takes memory for as many more entries, each of which may bring a name. Whatever comes, the registry
@@ -85,10 +79,11 @@ impl Registry {
     pub fn reserve(&mut self, entries: u32) -> Result<(), NoMemory>
         ensures entries { OnOk result (entries ≤ self.new.room) }
         ensures history { self.new.history ≡ self.old.history }
+        ensures ready { self.new.ready ≡ self.old.ready }
         ensures start { self.new.start ≡ self.old.start }
     {
         if self.history.reserve(entries as usize).is_err()
-            || self.parts.outgoing.reserve(entries as usize).is_err()
+            || self.parts.names.reserve(entries as usize).is_err()
         {
             return Err(NoMemory);
         }
@@ -104,12 +99,13 @@ impl Registry {
         self.history.as_slice()
     }
 
-    /// The slot of an outgoing name; none exactly where the name isn't outgoing.
+    /// The slot of an outgoing name, which is ready; none exactly where the name isn't outgoing.
     pub fn slot_of(&self, name: Name) -> Option<SlotNo>
         ensures value { RegistryIs self.now (λ s. finmap.get s.outgoing name ≡ option_map (λ x. x.0) result) }
         ensures within { IfSome result (λ x. x.0 < OUT_SLOTS) }
+        ensures ready { IfSome result (λ x. IsReady name self.now) }
     {
-        find(self.parts.outgoing.as_slice(), name)
+        self.parts.slots(name).outgoing
     }
 
     /// Whether a name is outgoing.
@@ -125,25 +121,29 @@ impl Registry {
         requires { file.0 < FILES }
         ensures { RegistryIs self.now (λ s. IsTrue result ↔ IsInUse file.0 s) }
     {
-        self.parts.used[file.0 as usize]
+        self.parts.files.is_used(file.0 as usize)
     }
 
     /// The least outgoing slot that has no name; none exactly where each has one.
     #[tactic(auto, using(crate::proofs::RegistryRuns::least_slot_told))]
-    fn least_slot(&self) -> Option<SlotNo>
-        ensures value { RegistryIs self.now (λ s. least_free_slot s.outgoing ≡ option_map (λ x. x.0) result) }
+    fn least_slot(&mut self) -> Option<SlotNo>
+        ensures value { RegistryIs self.old (λ s. least_free_slot s.outgoing ≡ option_map (λ x. x.0) result) }
         ensures within { IfSome result (λ x. x.0 < OUT_SLOTS) }
+        ensures same { self.new ≡ self.old }
     {
-        free_slot(self.parts.outgoing.as_slice())
+        let slot = self.parts.taken.least()?;
+        Some(SlotNo(slot as u8))
     }
 
     /// The least file number that isn't in use; none exactly where each is.
     #[tactic(auto, using(crate::proofs::RegistryRuns::least_file_told))]
-    fn least_file(&self) -> Option<FileNo>
-        ensures value { RegistryIs self.now (λ s. least_free_file s.files ≡ option_map (λ x. x.0) result) }
+    fn least_file(&mut self) -> Option<FileNo>
+        ensures value { RegistryIs self.old (λ s. least_free_file s.files ≡ option_map (λ x. x.0) result) }
         ensures within { IfSome result (λ x. x.0 < FILES) }
+        ensures same { self.new ≡ self.old }
     {
-        free_number(self.parts.used.as_slice())
+        let file = self.parts.files.least()?;
+        Some(FileNo(file as u16))
     }
 
     /// Makes an outgoing name: `NameTaken` where it is outgoing already, else `SessionsFull` where each outgoing
@@ -157,6 +157,7 @@ impl Registry {
         ensures within { IsWithin result.value }
         ensures told { result.entry ≡ entry_at slip.at (last_stamp self.old.history) (object_at registry_no) (RegCreate name) result.value }
         ensures kept { self.new.history ≡ self.old.history ++ result.entry ∷ [] }
+        ensures ready { self.new.ready ≡ ready_after name result.value self.old.ready }
         ensures room { self.old.room ≤ self.new.room + 1 }
         ensures start { self.new.start ≡ self.old.start }
         ensures run { IsTrue (is_some (registry_from self.new.start self.new.history)) }
@@ -182,6 +183,7 @@ impl Registry {
         ensures within { IsWithin result.value }
         ensures told { result.entry ≡ entry_at slip.at (last_stamp self.old.history) (object_at registry_no) (RegFindOut name) result.value }
         ensures kept { self.new.history ≡ self.old.history ++ result.entry ∷ [] }
+        ensures ready { self.new.ready ≡ self.old.ready }
         ensures room { self.old.room ≤ self.new.room + 1 }
         ensures start { self.new.start ≡ self.old.start }
         ensures run { IsTrue (is_some (registry_from self.new.start self.new.history)) }
@@ -203,6 +205,7 @@ impl Registry {
         ensures within { IsWithin result.value }
         ensures told { result.entry ≡ entry_at slip.at (last_stamp self.old.history) (object_at registry_no) RegNewFile result.value }
         ensures kept { self.new.history ≡ self.old.history ++ result.entry ∷ [] }
+        ensures ready { self.new.ready ≡ self.old.ready }
         ensures room { self.old.room ≤ self.new.room + 1 }
         ensures start { self.new.start ≡ self.old.start }
         ensures run { IsTrue (is_some (registry_from self.new.start self.new.history)) }
@@ -222,11 +225,13 @@ impl Registry {
         requires object_stamp { last_stamp self.old.history < 2 ^ 63 }
         ensures told { result.entry ≡ entry_at slip.at (last_stamp self.old.history) (object_at registry_no) (RegDropName name) Ok }
         ensures kept { self.new.history ≡ self.old.history ++ result.entry ∷ [] }
+        ensures ready { self.new.ready ≡ self.old.ready }
         ensures room { self.old.room ≤ self.new.room + 1 }
         ensures start { self.new.start ≡ self.old.start }
         ensures run { IsTrue (is_some (registry_from self.new.start self.new.history)) }
     {
-        remove(&mut self.parts.outgoing, name);
+        let slot = self.slot_of(name).unwrap();
+        self.parts.end_out(name, slot);
         let turned = append_plain_turn(
             &mut self.history,
             ObjectNo::REGISTRY,
@@ -248,11 +253,12 @@ impl Registry {
         requires object_stamp { last_stamp self.old.history < 2 ^ 63 }
         ensures told { result.entry ≡ entry_at slip.at (last_stamp self.old.history) (object_at registry_no) (RegFreeFile file) Ok }
         ensures kept { self.new.history ≡ self.old.history ++ result.entry ∷ [] }
+        ensures ready { self.new.ready ≡ self.old.ready }
         ensures room { self.old.room ≤ self.new.room + 1 }
         ensures start { self.new.start ≡ self.old.start }
         ensures run { IsTrue (is_some (registry_from self.new.start self.new.history)) }
     {
-        self.parts.used[file.0 as usize] = false;
+        self.parts.files.give(file.0 as usize);
         let turned = append_plain_turn(
             &mut self.history,
             ObjectNo::REGISTRY,
@@ -275,6 +281,7 @@ impl Registry {
         ensures value { result.value ≡ reply }
         ensures told { result.entry ≡ entry_at slip.at (last_stamp self.old.history) (object_at registry_no) event reply }
         ensures kept { self.new.history ≡ self.old.history ++ result.entry ∷ [] }
+        ensures ready { self.new.ready ≡ self.old.ready }
         ensures room { self.old.room ≤ self.new.room + 1 }
         ensures start { self.new.start ≡ self.old.start }
         ensures run { IsTrue (is_some (registry_from self.new.start self.new.history)) }
@@ -294,11 +301,12 @@ impl Registry {
         ensures value { result.value ≡ OkSlot slot }
         ensures told { result.entry ≡ entry_at slip.at (last_stamp self.old.history) (object_at registry_no) (RegCreate name) (OkSlot slot) }
         ensures kept { self.new.history ≡ self.old.history ++ result.entry ∷ [] }
+        ensures ready { self.new.ready ≡ finset.insert self.old.ready name }
         ensures room { self.old.room ≤ self.new.room + 1 }
         ensures start { self.new.start ≡ self.old.start }
         ensures run { IsTrue (is_some (registry_from self.new.start self.new.history)) }
     {
-        self.parts.outgoing.push((name, slot)).unwrap();
+        self.parts.put_out(name, slot);
         append_plain_turn(
             &mut self.history,
             ObjectNo::REGISTRY,
@@ -319,11 +327,12 @@ impl Registry {
         ensures value { result.value ≡ OkFile file }
         ensures told { result.entry ≡ entry_at slip.at (last_stamp self.old.history) (object_at registry_no) RegNewFile (OkFile file) }
         ensures kept { self.new.history ≡ self.old.history ++ result.entry ∷ [] }
+        ensures ready { self.new.ready ≡ self.old.ready }
         ensures room { self.old.room ≤ self.new.room + 1 }
         ensures start { self.new.start ≡ self.old.start }
         ensures run { IsTrue (is_some (registry_from self.new.start self.new.history)) }
     {
-        self.parts.used[file.0 as usize] = true;
+        self.parts.files.take(file.0 as usize);
         append_plain_turn(
             &mut self.history,
             ObjectNo::REGISTRY,

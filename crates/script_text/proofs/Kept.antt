@@ -1,5 +1,5 @@
 -- Every script that is read has built commands alone.
-use Rattle.std.proofs.Common.{◌≡◌, ℕ, Bool, true, false, not, cond, ◌&&◌, ◌||◌, List, [], ◌∷◌, ◌++◌, append-nil, refl, Option, Some, None, Ok}
+use Rattle.std.proofs.Common.{◌≡◌, ℕ, Bool, true, false, not, cond, ◌&&◌, List, [], ◌∷◌, ◌++◌, append-nil, refl, Option, Some, None, Ok}
 use Rattle.std.specs.List.{list_all}
 use Rattle.std.specs.Prelude.{IsTrue, option_to_list}
 use Rattle.std.specs.Result.{result_ok}
@@ -28,10 +28,6 @@ both false b h g = absurd (cc)
 and_true : (a b : Bool) → (a && b) ≡ true → (a ≡ true) × (b ≡ true)
 and_true true b h = (refl, h)
 and_true false b h = absurd (cc)
-
-neither : (a b : Bool) → (a || b) ≡ false → (a ≡ false) × (b ≡ false)
-neither true b h = absurd (cc)
-neither false b h = (refl, h)
 
 not_is : (b : Bool) → b ≡ false → not b ≡ true
 not_is true h = absurd (cc)
@@ -97,7 +93,7 @@ kexec_said v blob h = absurd (cc)
 is_taken_line : (r : Reading) (v : Verb) (l : Line) → is_unbuilt_verb v ≡ false → is_said v l ≡ true → is_unbuilt r l ≡ false → is_taken l ≡ true
 is_taken_line r v (Act command) built h g =
     let word : v ≡ word_of command = said_word v command h in
-    both _ _ (both _ _ (rw word at h) (not_is _ (rw word at built))) (not_is _ (neither _ _ g).0)
+    both _ _ (both _ _ (rw word at h) (not_is _ (rw word at built))) (not_is _ g)
 is_taken_line r v (Kexec blob) built h g = kexec_said v blob h
 is_taken_line r v other built h g = refl
 

@@ -9,3 +9,6 @@ pub mod Shaped
 pub mod Single
 pub mod Small
 pub mod Taken
+mod Finds
+mod CleanLines
+mod Verbs

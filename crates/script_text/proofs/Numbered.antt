@@ -142,14 +142,14 @@ sound_begun r s w i h below number first none more counts few section opened =
     some_is a b same = cc
 
 -- the place of an agent, new or not, is one of those that there are
-place_below : (agents : List (List ℕ)) (name : List ℕ) (place : Option ℕ) → place_of agents name ≡ place → length agents ≤ AGENTS
+pub place_below : (agents : List (List ℕ)) (name : List ℕ) (place : Option ℕ) → place_of agents name ≡ place → length agents ≤ AGENTS
     → (is_none place && nat_le AGENTS (length agents)) ≡ false → unwrap_or place (length agents) < AGENTS
 place_below agents name None at few full = grind (arith, nat_tests)
 place_below agents name (Some i) at few full =
     let inside = position-Some (same_bytes name) agents i [] at in
     omega (arith, inside.0)
 
-agents_few : (agents : List (List ℕ)) (name : List ℕ) (place : Option ℕ) → length agents ≤ AGENTS
+pub agents_few : (agents : List (List ℕ)) (name : List ℕ) (place : Option ℕ) → length agents ≤ AGENTS
     → (is_none place && nat_le AGENTS (length agents)) ≡ false → length (agents_with agents name place) ≤ AGENTS
 agents_few agents name None few full =
     let more = length-append agents (name ∷ []) in

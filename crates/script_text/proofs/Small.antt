@@ -1,7 +1,7 @@
 -- Every script that is read is small enough.
-use Rattle.std.proofs.Common.{◌≡◌, ℕ, ◌+◌, ◌≤◌, Bool, true, false, not, cond, ◌&&◌, ◌||◌, List, [], ◌∷◌, ◌++◌, append-nil, length, nat_lt, refl, sym, ◌∙◌, ap, arith, append_assoc, Option, Some, None, Ok}
+use Rattle.std.proofs.Common.{◌≡◌, ℕ, ◌+◌, ◌≤◌, Bool, true, false, not, cond, ◌&&◌, ◌||◌, List, [], ◌∷◌, ◌++◌, append-nil, length, refl, sym, ◌∙◌, ap, arith, append_assoc, Option, Some, None, Ok}
 use Rattle.std.specs.List.{list_all}
-use Rattle.std.specs.Prelude.{IsTrue, option_to_list, nat_le, unwrap_or}
+use Rattle.std.specs.Prelude.{IsTrue, option_to_list, nat_le, unwrap_or, is_some}
 use Rattle.std.proofs.lemmas.Bool.Decides.{nat_tests}
 use Rattle.std.proofs.lemmas.List.{length-append}
 use Rattle.ho_base.specs.declared.limits.TheConstants.{COMMANDS}
@@ -9,8 +9,8 @@ use Rattle.std.specs.Result.{result_ok}
 use Rattle.ho_events.specs.Script.{placed, is_misplaced, passes_limit, finished, outcome_of}
 use Rattle.ho_events.specs.Script.Lines.{line_of_words}
 use Rattle.ho_events.specs.Script.Rules.{sections_of, total_commands, is_alone, is_small_script}
-use Rattle.ho_events.specs.Script.SoFar.{Reading, sections, blocks_so_far, begun, place_of, agents_with, with_agent, with_command, with_line, nothing_read}
-use Rattle.ho_events.specs.Script.Unbuilt.{is_unbuilt}
+use Rattle.ho_events.specs.Script.SoFar.{Reading, sections, blocks_so_far, begun, place_of, with_agent, with_command, with_line, nothing_read}
+use Rattle.ho_events.specs.Script.Unbuilt.{is_unbuilt, has_any_section}
 use Rattle.ho_events.specs.declared.command.Command.{Command}
 use Rattle.ho_events.specs.declared.line.Line.{Line}
 use Rattle.ho_events.specs.declared.line.Line.TheVariants.{Machine, Scratch, Fail, Round, Agent, Kexec, Command as Act}
@@ -39,7 +39,6 @@ record IsSmall (r : Reading) : Type 0 where
   few : r.commands ≤ COMMANDS
   alone : list_all is_alone r.blocks ≡ true
   works : r.works ≡ []
-  unnamed : nat_lt 0 (length r.agents) ≡ false → r.section ≡ None
   over : r.open_round ≡ false → (r.works ≡ []) × (r.section ≡ None)
 
 alone_sections : (works : List AgentWork) (section : Option AgentWork) → works ≡ [] → nat_le (length (works ++ option_to_list section)) 1 ≡ true
@@ -78,7 +77,6 @@ small_command r (Some w) command last room h =
       few = few;
       alone = h.alone;
       works = h.works;
-      unnamed = λ no. none_some r.section w (h.unnamed no) last;
       over = λ shut. none_some r.section w (h.over shut).1 last;
     }
 
@@ -91,34 +89,32 @@ nothing_more xs ys w n none h =
     let empty : length w.commands ≡ 0 = rw none refl in
     omega (arith, h, empty, total-append xs ys, total-append xs (ys ++ w ∷ []), total-append ys (w ∷ []))
 
--- an agent is named once its line is taken
-some_named : (agents : List (List ℕ)) (name : List ℕ) → nat_lt 0 (length agents) ≡ false
-    → nat_lt 0 (length (agents_with agents name (place_of agents name))) ≡ true
-some_named [] name none = refl
-some_named (other ∷ agents) name none = absurd (grind (arith, nat_tests))
+-- no section is there yet where an agent's line is taken
+pub none_yet : (works : List AgentWork) (section : Option AgentWork) → works ≡ [] → is_some section ≡ false → works ++ option_to_list section ≡ []
+none_yet works None none first = rw none refl
+none_yet works (Some w) none first = absurd (cc)
 
-small_agent : (r : Reading) (name : List ℕ) → IsSmall r → nat_lt 0 (length r.agents) ≡ false → r.open_round ≡ true
+small_agent : (r : Reading) (name : List ℕ) → IsSmall r → has_any_section r ≡ false → r.open_round ≡ true
     → IsSmall (with_agent (record r { works = sections r; section = None }) name)
 small_agent r name h first opened =
-    let none : sections r ≡ [] = rw (h.works, h.unnamed first) refl in
+    let none : sections r ≡ [] = none_yet r.works r.section h.works first in
     let total : total_commands (sections_of r.blocks ++ sections r) ≡ r.commands = h.total in
     record {
       total = nothing_more (sections_of r.blocks) (sections r) (begun r.counts (unwrap_or (place_of r.agents name) (length r.agents))) r.commands refl total;
       few = h.few;
       alone = h.alone;
       works = none;
-      unnamed = λ no. absurd (let some = some_named r.agents name first in cc);
       over = λ shut. absurd (cc);
     }
 
 small_with : (r : Reading) (l : Line) → IsSmall r → is_misplaced r l ≡ false → passes_limit r l ≡ false → is_unbuilt r l ≡ false → IsSmall (with_line r l)
 unfolding with_line
-small_with r (Machine n) h place limit built = record { total = h.total; few = h.few; alone = h.alone; works = h.works; unnamed = h.unnamed; over = h.over }
-small_with r (Scratch area) h place limit built = record { total = h.total; few = h.few; alone = h.alone; works = h.works; unnamed = h.unnamed; over = h.over }
-small_with r (Fail fail) h place limit built = record { total = h.total; few = h.few; alone = h.alone; works = h.works; unnamed = h.unnamed; over = h.over }
+small_with r (Machine n) h place limit built = record { total = h.total; few = h.few; alone = h.alone; works = h.works; over = h.over }
+small_with r (Scratch area) h place limit built = record { total = h.total; few = h.few; alone = h.alone; works = h.works; over = h.over }
+small_with r (Fail fail) h place limit built = record { total = h.total; few = h.few; alone = h.alone; works = h.works; over = h.over }
 small_with r Round h place limit built =
     let same : sections_of (blocks_so_far r) ++ [] ≡ all_of r = append-nil _ ∙ over_is r.open_round r.blocks r.works r.section h.over in
-    record { total = rw same h.total; few = h.few; alone = alone_closed r h; works = refl; unnamed = λ _. refl; over = λ shut. absurd (cc) }
+    record { total = rw same h.total; few = h.few; alone = alone_closed r h; works = refl; over = λ shut. absurd (cc) }
 small_with r (Kexec blob) h place limit built =
     let same : sections_of (blocks_so_far r ++ block.Kexec blob ∷ []) ++ [] ≡ all_of r =
     append-nil _ ∙ sections-append (blocks_so_far r) (block.Kexec blob ∷ []) ∙ append-nil _ ∙ over_is r.open_round r.blocks r.works r.section h.over in
@@ -127,7 +123,6 @@ small_with r (Kexec blob) h place limit built =
       few = h.few;
       alone = all_push is_alone (blocks_so_far r) (block.Kexec blob) (alone_closed r h) refl;
       works = refl;
-      unnamed = λ _. refl;
       over = λ _. (refl, refl);
     }
 small_with r (Agent name) h place limit built = small_agent r name h built (is_open r.open_round _ place)
@@ -154,6 +149,6 @@ small_end r script h read =
 pub small_script : (fresh : Bool) (bytes : List ℕ) (script : Script) → result_ok (outcome_of fresh bytes) ≡ Some script → IsTrue (is_small_script script)
 unfolding outcome_of
 small_script fresh bytes script read =
-    let small : IsSmall (nothing_read fresh) = record { total = refl; few = omega arith; alone = refl; works = refl; unnamed = λ _. refl; over = λ _. (refl, refl) } in
+    let small : IsSmall (nothing_read fresh) = record { total = refl; few = omega arith; alone = refl; works = refl; over = λ _. (refl, refl) } in
     let end = keeps_all IsSmall small_line 1 (nothing_read fresh) _ script small (ok_of _ script read) in
     small_end end.0 script (end.1).0 (end.1).1

@@ -1,10 +1,8 @@
 -- What contracts see of a script's reader.
-use Rattle.std.specs.Prelude.{◌≡◌, ℕ, ◌≤◌, Bool, true, ◌&&◌, nat_le, Option, Some, None, IsTrue, length, slice_index, IfSome}
-use Rattle.std.specs.List.{list_any}
+use Rattle.std.specs.Prelude.{ℕ, ◌≤◌, Bool, true, ◌&&◌, nat_le, Option, Some, None, IsTrue, length, slice_index}
 use Rattle.std.specs.Option.{option_map}
 use Rattle.ho_base.specs.declared.limits.TheConstants.{AGENTS, COMMANDS}
 use Rattle.ho_events.specs.Script.SoFar.{Reading}
-use Rattle.ho_events.specs.Script.Unbuilt.{is_create, is_preserve}
 use Rattle.ho_events.specs.declared.script.AgentWork.{AgentWork}
 use Rattle.script_text.specs.declared.reader.Section.{Section}
 use Rattle.script_text.specs.declared.reader.Reader.TheInside.{Inside}
@@ -35,15 +33,9 @@ abbrev pub is_within : Option Section → Bool
 is_within None = true
 is_within (Some s) = nat_le 1 s.agent.0 && nat_le s.agent.0 AGENTS
 
--- a section's two notes say what its commands are
-pub record IsNoted (s : Section) : Type 0 where
-  pub creates : s.creates ≡ list_any is_create s.commands.items
-  pub preserves : s.preserves ≡ list_any is_preserve s.commands.items
-
 -- no agent has more commands than the script; the script has no more commands and no more agents than it may have
 pub record Fits (r : Inside) : Type 0 where
   pub counted : (k : ℕ) → slice_index r.counts k ≤ r.commands
   pub few : r.commands ≤ COMMANDS
   pub named : length r.agents.items ≤ AGENTS
   pub within : IsTrue (is_within r.section)
-  pub noted : IfSome r.section IsNoted

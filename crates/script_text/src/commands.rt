@@ -2,7 +2,7 @@
 
 ghost use Rattle.std.specs.Prelude.{◌≡◌, ◌+◌, nat_lt};
 ghost use Rattle.ho_events.specs.Script.SoFar.{label_of as label_rule};
-ghost use Rattle.ho_events.specs.Script.Unbuilt.{is_unbuilt_command as unbuilt_rule, is_create as create_rule, is_preserve as preserve_rule};
+ghost use Rattle.ho_events.specs.Script.Unbuilt.{is_unbuilt_command as unbuilt_rule};
 
 use ho_base::limits::PAGE_BYTES;
 use ho_base::name::Name;
@@ -20,7 +20,7 @@ pub fn label_of(command: &Command) -> Option<Name>
     }
 }
 
-/// Whether a command that the language allows isn't built, wherever it stands.
+/// Whether a command that the language allows isn't built.
 pub fn is_unbuilt(command: &Command) -> bool
     ensures { result ≡ unbuilt_rule command.now }
 {
@@ -36,24 +36,4 @@ fn ends_past_page(offset: u32, len: usize) -> bool
     ensures { result ≡ nat_lt PAGE_BYTES (offset + len) }
 {
     len > PAGE_BYTES as usize || offset > PAGE_BYTES - len as u32
-}
-
-/// Whether this is a create command.
-pub fn is_create(command: &Command) -> bool
-    ensures { result ≡ create_rule command.now }
-{
-    match command {
-        Command::Create(_) => true,
-        _ => false,
-    }
-}
-
-/// Whether this is a preserve command.
-pub fn is_preserve(command: &Command) -> bool
-    ensures { result ≡ preserve_rule command.now }
-{
-    match command {
-        Command::Preserve(_, _, _) => true,
-        _ => false,
-    }
 }

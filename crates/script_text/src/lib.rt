@@ -17,7 +17,7 @@ ghost use Rattle.ho_events.specs.declared.script.Script.{Script as AScript};
 ghost use Rattle.script_text.specs.Errors.{Says};
 
 use crate::reader::Reader;
-use crate::words::next_line;
+use crate::words::{has_script_bytes, next_line};
 pub use ho_events::line::Reason;
 use ho_events::script::Script;
 use std::alloc::Global;
@@ -47,13 +47,14 @@ pub fn read(alloc: Global, bytes: &[u8], fresh: bool) -> Result<Script, ScriptEr
     ensures shaped { IfOk result (λ script. is_some script.shape ≡ fresh) }
     ensures single { IfOk result (λ script. IsTrue (is_single_script script)) }
 {
+    let clean = has_script_bytes(bytes);
     let mut reader = Reader::new(alloc, fresh);
     let mut line: u32 = 1;
     let mut rest = bytes;
     while !rest.is_empty() {
         let (first, after) = next_line(rest);
-        match reader.after_line(alloc, first) {
-            Ok(Ok(next)) => reader = next,
+        match reader.take_line(alloc, first, clean) {
+            Ok(Ok(())) => {}
             Ok(Err(reason)) => return Err(ScriptError::Bad { line, reason }),
             Err(_) => return Err(ScriptError::Memory),
         }
@@ -82,7 +83,8 @@ pub fn is_read_shaped()
     ensures { (fresh : Bool) (bytes : List ℕ) (script : AScript) → script_of fresh bytes ≡ Some script → is_some script.shape ≡ fresh }
 {}
 
-/// A script has one kernel and one agent: at most one round, of at most one section, and no planned failures.
+/// A script has one kernel and no planned failures, and each of its blocks is a round of at most one section, of an
+/// agent whose number is from 1 to 15.
 pub fn is_read_single()
     ensures { (fresh : Bool) (bytes : List ℕ) (script : AScript) → script_of fresh bytes ≡ Some script → IsTrue (is_single_script script) }
 {}

@@ -2,12 +2,14 @@
 
 mod so_far;
 
-ghost use Rattle.std.specs.Prelude.{◌≡◌, ◌<◌, false, IfOk, None};
+ghost use Rattle.std.specs.Prelude.{◌≡◌, ◌<◌, false, IfOk, OnOk, MatchResult, Ok, Err, None, IsTrue};
+ghost use Rattle.std.specs.List.{list_all};
 ghost use Rattle.ho_events.specs.Script.{after_line as after_rule, placed as placed_rule, finished, is_full as full_rule};
+ghost use Rattle.ho_events.specs.Script.Words.{is_script_byte as script_byte};
 ghost use Rattle.ho_events.specs.Script.SoFar.{nothing_read, closed as closed_rule, sections, place_of as place_rule, label_of as label_rule, is_bound_by as bound_rule, with_agent as with_agent_rule, with_command as command_rule};
 ghost use Rattle.ho_events.specs.declared.line.Line.TheVariants.{Machine, Scratch, Fail as Plan, Round, Agent, Kexec as Boot, Command as Act};
 
-use crate::commands::{is_create, is_preserve, is_unbuilt, label_of};
+use crate::commands::{is_unbuilt, label_of};
 use crate::labels::Labels;
 use crate::lines::line_of;
 use crate::words::{has_script_bytes, is_comment, next_word};
@@ -29,10 +31,6 @@ struct Section {
     agent: AgentNo,
     first: u32,
     commands: Vec<Command>,
-    /// Whether one of the commands is a create.
-    creates: bool,
-    /// Whether one of the commands is a preserve.
-    preserves: bool,
 }
 
 /// What the lines so far have said.
@@ -92,28 +90,31 @@ impl Reader {
         }
     }
 
-    /// The reader after a line of these bytes, or why the line is refused.
+    /// Takes a line of these bytes, or says why the line is refused.
     ///
-    /// The one error is that memory could not be had.
+    /// Where it is known already that a script may have each of these bytes, it is `clean`. The one error is that
+    /// memory could not be had.
     #[tactic(auto, unfolding(ho_events::specs::Script::after_line))]
-    pub fn after_line(
-        self,
+    pub fn take_line(
+        &mut self,
         alloc: Global,
         bytes: &[u8],
-    ) -> Result<Result<Reader, Reason>, AllocError>
-        ensures { IfOk result (λ next. next ≡ after_rule self bytes.now) }
+        clean: bool,
+    ) -> Result<Result<(), Reason>, AllocError>
+        requires { IsTrue clean → IsTrue (list_all script_byte bytes.now) }
+        ensures { IfOk result (λ done. MatchResult done (λ _. after_rule self.old bytes.now ≡ Ok self.new) (λ why. after_rule self.old bytes.now ≡ Err why)) }
     {
-        if !has_script_bytes(bytes) {
+        if !clean && !has_script_bytes(bytes) {
             return Ok(Err(Reason::Byte));
         }
         let Some((first, args)) = next_word(bytes) else {
-            return Ok(Ok(self));
+            return Ok(Ok(()));
         };
         if is_comment(first) {
-            return Ok(Ok(self));
+            return Ok(Ok(()));
         }
         match line_of(alloc, first, args)? {
-            Ok(line) => self.placed(alloc, line),
+            Ok(line) => self.place(alloc, line),
             Err(why) => Ok(Err(why)),
         }
     }
@@ -122,19 +123,20 @@ impl Reader {
     ///
     /// The one error is that memory could not be had.
     #[tactic(auto, unfolding(ho_events::specs::Script::finished))]
-    pub fn into_script(self, alloc: Global) -> Result<Result<Script, Reason>, AllocError>
+    pub fn into_script(mut self, alloc: Global) -> Result<Result<Script, Reason>, AllocError>
         ensures { IfOk result (λ script. script ≡ finished self) }
     {
         if self.lacks_head() {
             return Ok(Err(Reason::End));
         }
+        self.close_round(alloc)?;
         let Reader {
             shape,
             fails,
             agents,
             blocks,
             ..
-        } = self.closed(alloc)?;
+        } = self;
         Ok(Ok(Script {
             shape,
             fails: Items::from_vec(fails),
@@ -143,42 +145,38 @@ impl Reader {
         }))
     }
 
-    /// The reader after a line, or why the line is refused where it stands.
-    fn placed(self, alloc: Global, line: Line) -> Result<Result<Reader, Reason>, AllocError>
-        ensures { IfOk result (λ next. next ≡ placed_rule self line) }
+    /// Takes a line, or says why it is refused where it stands.
+    fn place(&mut self, alloc: Global, line: Line) -> Result<Result<(), Reason>, AllocError>
+        ensures { IfOk result (λ done. MatchResult done (λ _. placed_rule self.old line ≡ Ok self.new) (λ why. placed_rule self.old line ≡ Err why)) }
     {
         match line {
-            Line::Machine(frames) => Ok(self.after_machine(frames)),
-            Line::Scratch(area) => self.after_scratch(alloc, area),
-            Line::Fail(fail) => self.after_fail(fail),
-            Line::Round => self.after_round(alloc),
-            Line::Agent(name) => self.after_agent(alloc, name),
-            Line::Kexec(blob) => self.after_kexec(alloc, blob),
-            Line::Command(command) => self.after_command(command),
+            Line::Machine(frames) => Ok(self.take_machine(frames)),
+            Line::Scratch(area) => self.take_scratch(alloc, area),
+            Line::Fail(fail) => self.take_fail(fail),
+            Line::Round => self.take_round(alloc),
+            Line::Agent(name) => self.take_agent(alloc, name),
+            Line::Kexec(blob) => self.take_kexec(alloc, blob),
+            Line::Command(command) => self.take_command(command),
         }
     }
 
-    /// The reader after a machine line, which comes first in a fresh script.
+    /// Takes a machine line, which comes first in a fresh script.
     #[tactic(auto, unfolding(ho_events::specs::Script::placed, ho_events::specs::Script::SoFar::with_line,))]
-    fn after_machine(mut self, frames: u32) -> Result<Reader, Reason>
-        ensures { result ≡ placed_rule self (Machine frames) }
+    fn take_machine(&mut self, frames: u32) -> Result<(), Reason>
+        ensures { MatchResult result (λ _. placed_rule self.old (Machine frames) ≡ Ok self.new) (λ why. placed_rule self.old (Machine frames) ≡ Err why) }
     {
         if !self.fresh || self.frames.is_some() {
             return Err(Reason::Place);
         }
         self.frames = Some(frames);
-        Ok(self)
+        Ok(())
     }
 
-    /// The reader after a scratch line: one of 1 to 4 after the machine line, with which the areas so far
+    /// Takes a scratch line: one of 1 to 4 after the machine line, with which the areas so far
     /// are a machine's shape.
     #[tactic(auto, unfolding(ho_events::specs::Script::placed, ho_events::specs::Script::SoFar::with_line,))]
-    fn after_scratch(
-        mut self,
-        alloc: Global,
-        area: Area,
-    ) -> Result<Result<Reader, Reason>, AllocError>
-        ensures { IfOk result (λ next. next ≡ placed_rule self (Scratch area)) }
+    fn take_scratch(&mut self, alloc: Global, area: Area) -> Result<Result<(), Reason>, AllocError>
+        ensures { IfOk result (λ done. MatchResult done (λ _. placed_rule self.old (Scratch area) ≡ Ok self.new) (λ why. placed_rule self.old (Scratch area) ≡ Err why)) }
     {
         let Some(frames) = self.frames else {
             return Ok(Err(Reason::Place));
@@ -197,16 +195,16 @@ impl Reader {
         match Shape::checked(frames, areas) {
             Ok(shape) => {
                 self.shape = Some(shape);
-                Ok(Ok(self))
+                Ok(Ok(()))
             }
             Err(_) => Ok(Err(Reason::Shape)),
         }
     }
 
-    /// The reader after a planned failure, which stands before the blocks.
+    /// Takes a planned failure, which stands before the blocks.
     #[tactic(auto, unfolding(ho_events::specs::Script::placed, ho_events::specs::Script::SoFar::with_line,))]
-    fn after_fail(mut self, fail: Fail) -> Result<Result<Reader, Reason>, AllocError>
-        ensures { IfOk result (λ next. next ≡ placed_rule self (Plan fail)) }
+    fn take_fail(&mut self, fail: Fail) -> Result<Result<(), Reason>, AllocError>
+        ensures { IfOk result (λ done. MatchResult done (λ _. placed_rule self.old (Plan fail) ≡ Ok self.new) (λ why. placed_rule self.old (Plan fail) ≡ Err why)) }
     {
         if self.lacks_head() || self.has_block() {
             return Ok(Err(Reason::Place));
@@ -215,13 +213,13 @@ impl Reader {
             return Ok(Err(Reason::Limit));
         }
         self.fails.push(fail)?;
-        Ok(Ok(self))
+        Ok(Ok(()))
     }
 
-    /// The reader after a round line.
+    /// Takes a round line.
     #[tactic(auto, unfolding(ho_events::specs::Script::placed, ho_events::specs::Script::SoFar::with_line,))]
-    fn after_round(self, alloc: Global) -> Result<Result<Reader, Reason>, AllocError>
-        ensures { IfOk result (λ next. next ≡ placed_rule self Round) }
+    fn take_round(&mut self, alloc: Global) -> Result<Result<(), Reason>, AllocError>
+        ensures { IfOk result (λ done. MatchResult done (λ _. placed_rule self.old Round ≡ Ok self.new) (λ why. placed_rule self.old Round ≡ Err why)) }
     {
         if self.lacks_head() {
             return Ok(Err(Reason::Place));
@@ -229,19 +227,16 @@ impl Reader {
         if self.rounds >= ROUNDS {
             return Ok(Err(Reason::Limit));
         }
-        if self.rounds > 0 {
-            return Ok(Err(Reason::Later));
-        }
-        let mut next = self.closed(alloc)?;
-        next.open_round = true;
-        next.rounds += 1;
-        Ok(Ok(next))
+        self.close_round(alloc)?;
+        self.open_round = true;
+        self.rounds += 1;
+        Ok(Ok(()))
     }
 
-    /// The reader after a kexec line.
+    /// Takes a kexec line.
     #[tactic(auto, unfolding(ho_events::specs::Script::placed, ho_events::specs::Script::SoFar::with_line,))]
-    fn after_kexec(self, alloc: Global, blob: Blob) -> Result<Result<Reader, Reason>, AllocError>
-        ensures { IfOk result (λ next. next ≡ placed_rule self (Boot blob)) }
+    fn take_kexec(&mut self, alloc: Global, blob: Blob) -> Result<Result<(), Reason>, AllocError>
+        ensures { IfOk result (λ done. MatchResult done (λ _. placed_rule self.old (Boot blob) ≡ Ok self.new) (λ why. placed_rule self.old (Boot blob) ≡ Err why)) }
     {
         if self.lacks_head() {
             return Ok(Err(Reason::Place));
@@ -249,16 +244,16 @@ impl Reader {
         if self.kexecs >= KEXECS {
             return Ok(Err(Reason::Limit));
         }
-        let mut next = self.closed(alloc)?;
-        next.blocks.push(Block::Kexec(blob))?;
-        next.kexecs += 1;
-        Ok(Ok(next))
+        self.close_round(alloc)?;
+        self.blocks.push(Block::Kexec(blob))?;
+        self.kexecs += 1;
+        Ok(Ok(()))
     }
 
-    /// The reader after an agent line, which stands in a round that has no section of this agent.
+    /// Takes an agent line, which stands in a round that has no section of this agent.
     #[tactic(auto, unfolding(ho_events::specs::Script::placed, ho_events::specs::Script::SoFar::with_line,))]
-    fn after_agent(self, alloc: Global, name: Name) -> Result<Result<Reader, Reason>, AllocError>
-        ensures { IfOk result (λ next. next ≡ placed_rule self (Agent name)) }
+    fn take_agent(&mut self, alloc: Global, name: Name) -> Result<Result<(), Reason>, AllocError>
+        ensures { IfOk result (λ done. MatchResult done (λ _. placed_rule self.old (Agent name) ≡ Ok self.new) (λ why. placed_rule self.old (Agent name) ≡ Err why)) }
     {
         let place = self.place_of(name);
         if !self.open_round || self.has_section(place) {
@@ -267,24 +262,24 @@ impl Reader {
         if self.is_full(place) {
             return Ok(Err(Reason::Limit));
         }
-        if self.has_agent() {
+        if self.has_any_section() {
             return Ok(Err(Reason::Later));
         }
-        let next = self.with_section_over()?;
-        let next = next.with_agent(alloc, name, place)?;
-        Ok(Ok(next))
+        self.end_section()?;
+        self.begin_section(alloc, name, place)?;
+        Ok(Ok(()))
     }
 
-    /// The reader once an agent's section begins, at this place among the agents or as a new one.
-    fn with_agent(
-        mut self,
+    /// Begins an agent's section, at this place among the agents or as a new one.
+    fn begin_section(
+        &mut self,
         alloc: Global,
         name: Name,
         place: Option<usize>,
-    ) -> Result<Reader, AllocError>
-        requires known { place ≡ place_rule self.agents name }
-        requires room { full_rule place self.agents ≡ false }
-        ensures { IfOk result (λ next. next ≡ with_agent_rule self name) }
+    ) -> Result<(), AllocError>
+        requires known { place ≡ place_rule self.old.agents name }
+        requires room { full_rule place self.old.agents ≡ false }
+        ensures { OnOk result (self.new ≡ with_agent_rule self.old name) }
     {
         let at = match place {
             Some(i) => i,
@@ -297,16 +292,14 @@ impl Reader {
             agent: AgentNo((at + 1) as u8),
             first: self.counts[at] + 1,
             commands: Vec::new(alloc),
-            creates: false,
-            preserves: false,
         });
-        Ok(self)
+        Ok(())
     }
 
-    /// The reader after a command, which stands in an agent's section.
+    /// Takes a command, which stands in an agent's section.
     #[tactic(auto, unfolding(ho_events::specs::Script::placed, ho_events::specs::Script::SoFar::with_line,))]
-    fn after_command(self, command: Command) -> Result<Result<Reader, Reason>, AllocError>
-        ensures { IfOk result (λ next. next ≡ placed_rule self (Act command)) }
+    fn take_command(&mut self, command: Command) -> Result<Result<(), Reason>, AllocError>
+        ensures { IfOk result (λ done. MatchResult done (λ _. placed_rule self.old (Act command) ≡ Ok self.new) (λ why. placed_rule self.old (Act command) ≡ Err why)) }
     {
         let agent = match &self.section {
             Some(section) => section.agent.0,
@@ -318,68 +311,61 @@ impl Reader {
         if self.commands >= COMMANDS {
             return Ok(Err(Reason::Limit));
         }
-        if is_unbuilt(&command) || self.is_unbuilt_there(&command) {
+        if is_unbuilt(&command) {
             return Ok(Err(Reason::Later));
         }
-        let next = self.with_command(command)?;
-        Ok(Ok(next))
+        self.add_command(command)?;
+        Ok(Ok(()))
     }
 
-    /// The reader once a command stands in the last section.
-    fn with_command(mut self, command: Command) -> Result<Reader, AllocError>
-        requires room { self.commands < COMMANDS }
-        requires first { bound_rule self.labels self.section (label_rule command) ≡ false }
-        ensures { IfOk result (λ next. next ≡ command_rule self self.section command) }
+    /// Puts a command into the last section.
+    fn add_command(&mut self, command: Command) -> Result<(), AllocError>
+        requires room { self.old.commands < COMMANDS }
+        requires first { bound_rule self.old.labels self.old.section (label_rule command) ≡ false }
+        ensures { OnOk result (self.new ≡ command_rule self.old self.old.section command) }
     {
         let Some(section) = self.section.take() else {
-            return Ok(self);
+            return Ok(());
         };
         let Section {
             agent,
             first,
             mut commands,
-            creates,
-            preserves,
         } = section;
         self.labels.add(agent.0, label_of(&command))?;
-        let creates = creates | is_create(&command);
-        let preserves = preserves | is_preserve(&command);
         commands.push(command)?;
         self.section = Some(Section {
             agent,
             first,
             commands,
-            creates,
-            preserves,
         });
         self.counts[usize::from(agent.0) - 1] += 1;
         self.commands += 1;
-        Ok(self)
+        Ok(())
     }
 
-    /// The reader once the open round is over.
-    fn closed(self, alloc: Global) -> Result<Reader, AllocError>
-        ensures { IfOk result (λ next. next ≡ closed_rule self) }
+    /// Ends the open round, if there is one.
+    fn close_round(&mut self, alloc: Global) -> Result<(), AllocError>
+        ensures { OnOk result (self.new ≡ closed_rule self.old) }
     {
-        let mut next = self.with_section_over()?;
-        let works = mem::replace(&mut next.works, Vec::new(alloc));
-        if next.open_round {
-            next.blocks.push(Block::Round(Items::from_vec(works)))?;
+        self.end_section()?;
+        let works = mem::replace(&mut self.works, Vec::new(alloc));
+        if self.open_round {
+            self.blocks.push(Block::Round(Items::from_vec(works)))?;
         }
-        next.open_round = false;
-        Ok(next)
+        self.open_round = false;
+        Ok(())
     }
 
-    /// The reader once the last section of the open round is over.
-    fn with_section_over(mut self) -> Result<Reader, AllocError>
-        ensures { IfOk result (λ next. next ≡ record self { works = sections self; section = None }) }
+    /// Ends the last section of the open round, if there is one.
+    fn end_section(&mut self) -> Result<(), AllocError>
+        ensures { OnOk result (self.new ≡ record self.old { works = sections self.old; section = None }) }
     {
         if let Some(section) = self.section.take() {
             let Section {
                 agent,
                 first,
                 commands,
-                ..
             } = section;
             self.works.push(AgentWork {
                 agent,
@@ -387,6 +373,6 @@ impl Reader {
                 commands: Items::from_vec(commands),
             })?;
         }
-        Ok(self)
+        Ok(())
     }
 }

@@ -52,10 +52,7 @@ fn gives_the_first_reason_of_a_head(rt: HostRuntime) -> Result<(), Fail> {
             "machine 64\nscratch 1 8\nscratch 8 8",
             Some((3, Reason::Shape)),
         ),
-        (
-            "machine 64\nscratch 1 8\nround\nround",
-            Some((4, Reason::Later)),
-        ),
+        ("machine 64\nscratch 1 8\nround\nround", None),
         (
             "machine 64\nscratch 1 8\nkexec 1 4",
             Some((3, Reason::Later)),
@@ -101,9 +98,9 @@ fn gives_the_first_reason_of_a_command(rt: HostRuntime) -> Result<(), Fail> {
         ("memfd m 10", Some((5, Reason::Number))),
         ("memfd m/ 10", Some((5, Reason::Name))),
         ("memfd m", Some((5, Reason::Count))),
-        ("memfd m 0\nmemfd n 0", Some((6, Reason::Later))),
+        ("memfd m 0\nmemfd n 0", None),
         ("memfd m 0\nmemfd m 1", Some((6, Reason::Label))),
-        ("write m 0 68", Some((5, Reason::Later))),
+        ("write m 0 68", None),
         ("memfd m 0\nwrite m 0 6", Some((6, Reason::Hex))),
         ("memfd m 0\nwrite m 0 6g", Some((6, Reason::Hex))),
         (
@@ -111,8 +108,11 @@ fn gives_the_first_reason_of_a_command(rt: HostRuntime) -> Result<(), Fail> {
             Some((6, Reason::Number)),
         ),
         ("memfd m 0\nwrite m 4095 6868", Some((6, Reason::Later))),
-        ("create s\ncreate t", Some((6, Reason::Later))),
-        ("preserve s 7 m", Some((5, Reason::Later))),
+        ("read m 4294967295 4096\nread m 0 0", None),
+        ("read m 0 4097", Some((5, Reason::Number))),
+        ("read m 0", Some((5, Reason::Count))),
+        ("create s\ncreate t", None),
+        ("preserve s 7 m", None),
         (
             "preserve s 18446744073709551616 m/",
             Some((5, Reason::Number)),
@@ -121,14 +121,8 @@ fn gives_the_first_reason_of_a_command(rt: HostRuntime) -> Result<(), Fail> {
             "preserve s 18446744073709551615 m/",
             Some((5, Reason::Name)),
         ),
-        (
-            "memfd m 0\npreserve s 7 m\nwrite m 0 68",
-            Some((7, Reason::Later)),
-        ),
-        (
-            "memfd m 0\npreserve s 7 m\npreserve s 8 m",
-            Some((7, Reason::Later)),
-        ),
+        ("memfd m 0\npreserve s 7 m\nwrite m 0 68", None),
+        ("memfd m 0\npreserve s 7 m\npreserve s 8 m", None),
         ("tell", Some((5, Reason::Later))),
         (
             "create nnnnnnnnnnnnnnnnnnnnnnnnnnnnnnnnnnnnnnnnnnnnnnnnnnnnnnnnnnnnnnnn",
@@ -180,23 +174,83 @@ fn reads_the_first_path(rt: HostRuntime) -> Result<(), Fail> {
     Ok(())
 }
 
-/// A head with commands `close s`, so many of them.
-fn with_closes(alloc: Global, times: u32) -> Result<String, AllocError> {
+#[test]
+fn gives_the_first_reason_of_a_later_round(rt: HostRuntime) -> Result<(), Fail> {
+    let texts = [
+        ("round\nround\nagent b\nround\nagent a\nclose s", None),
+        ("round\nagent b\nagent c", Some((7, Reason::Later))),
+        ("round\nagent b\nagent b", Some((7, Reason::Place))),
+        ("round\nclose s", Some((6, Reason::Place))),
+        ("memfd m 0\nround\nagent b\nmemfd m 0", None),
+        (
+            "memfd m 0\nround\nagent a\nmemfd m 0",
+            Some((8, Reason::Label)),
+        ),
+        ("round\nkexec 1 4", Some((6, Reason::Later))),
+    ];
+    for (text, expected) in texts {
+        let whole = format!(in rt.alloc(); "{HEAD}{text}")?;
+        assert_eq!(rt;
+            refusal(rt.alloc(), whole.as_str(), true),
+            expected,
+            "at {text}"
+        );
+    }
+    Ok(())
+}
+
+/// The agents and the numbers of the first commands and of all commands of the sections of some rounds.
+fn sections(alloc: Global, blocks: &[Block]) -> Result<Vec<(AgentNo, u32, usize)>, AllocError> {
+    let mut sections = Vec::new(alloc);
+    for block in blocks {
+        if let Block::Round(works) = block {
+            for work in works.as_slice() {
+                sections.push((work.agent, work.first, work.commands.len()))?;
+            }
+        }
+    }
+    Ok(sections)
+}
+
+#[test]
+fn numbers_commands_over_rounds(rt: HostRuntime) -> Result<(), Fail> {
+    let text =
+        b"round\nagent a\nmemfd m 0\nclose s\nround\nagent b\nclose s\nround\nround\nagent a\nread m 0 4";
+    let Ok(script) = read(rt.alloc(), text, false) else {
+        assert!(rt; false, "the rounds are refused");
+        return Ok(());
+    };
+    assert_eq!(rt; script.agents.len(), 2);
+    assert_eq!(rt; script.blocks.len(), 4);
+    let expected = [(AgentNo(1), 1, 2), (AgentNo(2), 1, 1), (AgentNo(1), 3, 1)];
+    let found = sections(rt.alloc(), script.blocks.as_slice())?;
+    assert_eq!(rt; found.as_slice(), expected.as_slice());
+    Ok(())
+}
+
+/// A head with a line, so many times.
+fn with_lines(alloc: Global, line: &str, times: u32) -> Result<String, AllocError> {
     let mut text = String::from_str(alloc, HEAD)?;
     for _ in 0..times {
-        text.push_str("close s\n")?;
+        text.push_str(line)?;
     }
     Ok(text)
 }
 
 #[test]
-fn reads_4096_commands_and_no_more(rt: HostRuntime) -> Result<(), Fail> {
-    for (times, expected) in [(4096, None), (4097, Some((4101, Reason::Limit)))] {
-        let text = with_closes(rt.alloc(), times)?;
+fn reads_4096_commands_and_64_rounds_and_no_more(rt: HostRuntime) -> Result<(), Fail> {
+    let cases = [
+        ("close s\n", 4096, None),
+        ("close s\n", 4097, Some((4101, Reason::Limit))),
+        ("round\n", 63, None),
+        ("round\n", 64, Some((68, Reason::Limit))),
+    ];
+    for (line, times, expected) in cases {
+        let text = with_lines(rt.alloc(), line, times)?;
         assert_eq!(rt;
             refusal(rt.alloc(), text.as_str(), true),
             expected,
-            "at {times}"
+            "at {times} of {line}"
         );
     }
     Ok(())

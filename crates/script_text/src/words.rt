@@ -4,6 +4,8 @@ ghost use Rattle.std.specs.Prelude.{◌≡◌, ◌<◌, [], ◌∷◌, not, leng
 ghost use Rattle.std.specs.List.{list_all};
 ghost use Rattle.ho_events.specs.Script.Words.{is_line_feed, is_blank as blank, is_script_byte as script_byte, is_comment as comment, lines, words};
 
+use memchr::{memchr, memchr2};
+
 /// The first line without its line feed, and the bytes after that.
 pub fn next_line(bytes: &[u8]) -> (&[u8], &[u8])
     requires { 0 < length bytes.now }
@@ -27,11 +29,15 @@ pub fn next_word(line: &[u8]) -> Option<(&[u8], &[u8])>
     }
 }
 
-/// Whether a script may have each of these bytes.
+/// Whether a script may have each of these bytes. Each is looked at, so that several are at a time.
 pub fn has_script_bytes(line: &[u8]) -> bool
     ensures { result ≡ list_all script_byte line.now }
 {
-    line.iter().all(|b| is_script_byte(*b))
+    let mut all = true;
+    for b in line {
+        all &= is_script_byte(*b);
+    }
+    all
 }
 
 /// Whether a first word begins a comment.
@@ -48,7 +54,7 @@ pub fn is_comment(word: &[u8]) -> bool
 fn is_script_byte(b: u8) -> bool
     ensures { result ≡ script_byte b }
 {
-    matches!(b, b'\n' | b'\t' | 32..=126)
+    (b == b'\n') | (b == b'\t') | ((32 <= b) & (b <= 126))
 }
 
 /// Whether this byte is a tab or a space.
@@ -62,14 +68,14 @@ fn is_blank(b: u8) -> bool
 fn first_line_feed(bytes: &[u8]) -> Option<usize>
     ensures { result ≡ position is_line_feed bytes.now }
 {
-    bytes.iter().position(|b| *b == b'\n')
+    memchr(b'\n', bytes)
 }
 
 /// Where the first tab or space stands.
 fn first_blank(bytes: &[u8]) -> Option<usize>
     ensures { result ≡ position blank bytes.now }
 {
-    bytes.iter().position(|b| is_blank(*b))
+    memchr2(b'\t', b' ', bytes)
 }
 
 /// Where the first word begins.

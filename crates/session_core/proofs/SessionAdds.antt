@@ -1,5 +1,5 @@
 -- How adding a file comes out.
-use Rattle.std.proofs.Common.{◌≡◌, ℕ, ◌&&◌, Bool, true, false, List, [], ◌∷◌, ◌++◌, map, refl, ap, sym, ◌∙◌, arith, IsTrue, nat_lt, nat_le, subst, not, T}
+use Rattle.std.proofs.Common.{◌≡◌, ℕ, ◌<◌, ◌&&◌, Bool, true, false, List, [], ◌∷◌, ◌++◌, map, refl, ap, sym, ◌∙◌, arith, IsTrue, nat_lt, nat_le, subst, not, T}
 use Rattle.std.specs.Prelude.{Option, None, Some, ◌↔◌}
 use Rattle.std.specs.List.{insert}
 use Rattle.std.specs.Option.{MatchOption, IfSome, option_or}
@@ -8,7 +8,8 @@ use Rattle.std.specs.Cmp.{nat_cmp_total}
 use Rattle.std.specs.FinMap as finmap
 use Rattle.std.specs.FinMap.Entries.{is_sorted-put}
 use Rattle.std.proofs.lemmas.Bool.Decides.{nat_tests}
-use Rattle.ho_base.specs.declared.limits.TheConstants.{SESSION_FILES}
+use Rattle.std.proofs.lemmas.List.Elements.{All-append, All-cons, All-drop, All-take}
+use Rattle.ho_base.specs.declared.limits.TheConstants.{FILES, SESSION_FILES}
 use Rattle.ho_base.specs.declared.numbers.Token.{Token}
 use Rattle.ho_base.specs.declared.numbers.FileNo.{FileNo}
 use Rattle.ho_events.specs.Session.{SessionState, Free, Out, In, Listed, is_out, files_of, admits, with_file, add_step, session_step}
@@ -22,7 +23,7 @@ use Rattle.session_core.proofs.Tokens.{put_at}
 use Rattle.ho_events.specs.PlainTurns.{ReplyIsPlain}
 use Rattle.session_core.specs.Sessions.{refusal_by, refusal_of, is_loss, add_answer}
 use Rattle.session_core.specs.declared.opening.Incoming.{Incoming}
-use Rattle.session_core.specs.SessionShown.{listed, TokensRise, has_token, smaller, shown, KeepsSession}
+use Rattle.session_core.specs.SessionShown.{listed, AreFiles, TokensRise, has_token, smaller, shown, KeepsSession}
 
 step_of_add : (s : SessionState) → (name : List ℕ) → (token : Token) → (file : FileNo) → (handle : ℕ) → (reply : Reply) → session_step s (SessionAdd name token file handle) reply ≡ add_step s name token.0 (record { file = file.0; handle = handle; taken = false }) reply
 step_of_add Free name token file handle reply = refl
@@ -134,14 +135,20 @@ incoming_admits_none : (i : Incoming) → (n : Option (List ℕ)) → (files : L
 unfolding shown
 incoming_admits_none i n files name token h = cc
 
-pub list_keeps : (start : SessionState) → (h : List Entry) → (e : Entry) → (i : Option Incoming) → (n : Option (List ℕ)) → (files : List (Token × FileNo × ℕ)) → (name : List ℕ) → (token : Token) → (file : FileNo) → (handle : ℕ) → KeepsSession start h i n files → MatchOption (session_from start h) ⊥ (λ s. IsTrue (admits s name token.0)) → e.event ≡ SessionAdd name token file handle → e.reply ≡ Ok → KeepsSession start (h ++ e ∷ []) i n (insert files (smaller token.0 files) (token, file, handle))
-list_keeps start h e (Some i) n files name token file handle k is event reply =
+-- one more file number among them
+files_insert : (n : ℕ) → (f : Token × FileNo × ℕ) → (files : List (Token × FileNo × ℕ)) → f.1.0 < FILES → AreFiles files → AreFiles (insert files n f)
+files_insert n f files less h =
+    All-append (λ g. g.1.0 < FILES) _ _ (All-take (λ g. g.1.0 < FILES) n files h)
+    (All-cons (λ g. g.1.0 < FILES) f _ less (All-drop (λ g. g.1.0 < FILES) n files h))
+
+pub list_keeps : (start : SessionState) → (h : List Entry) → (e : Entry) → (i : Option Incoming) → (n : Option (List ℕ)) → (files : List (Token × FileNo × ℕ)) → (name : List ℕ) → (token : Token) → (file : FileNo) → (handle : ℕ) → KeepsSession start h i n files → MatchOption (session_from start h) ⊥ (λ s. IsTrue (admits s name token.0)) → e.event ≡ SessionAdd name token file handle → e.reply ≡ Ok → file.0 < FILES → KeepsSession start (h ++ e ∷ []) i n (insert files (smaller token.0 files) (token, file, handle))
+list_keeps start h e (Some i) n files name token file handle k is event reply less =
     absurd (incoming_admits_none i n files name token.0 (at_shown start h (Some i) n files (λ s. IsTrue (admits s name token.0)) k is))
-list_keeps start h e None None files name token file handle k is event reply =
+list_keeps start h e None None files name token file handle k is event reply less =
     absurd (nothing_admitted files name token.0 (at_shown start h None None files (λ s. IsTrue (admits s name token.0)) k is))
-list_keeps start h e None (Some own) files name token file handle k is event reply =
+list_keeps start h e None (Some own) files name token file handle k is event reply less =
     let a : IsTrue (admits (shown None (Some own) files) name token.0) = at_shown start h None (Some own) files (λ s. IsTrue (admits s name token.0)) k is in
     let new : has_token token.0 files ≡ false = taken_at own files name token.0 a k.rising in
     turn_keeps start h e None None (Some own) (Some own) files _ k
     (rw (event, reply) (step_of_add _ name token file handle Ok ∙ only_true _ _ a ∙ ap Some (with_shown own files (token, file, handle) k.rising new)))
-    (still_rising files (token, file, handle) k.rising new) tt
+    (still_rising files (token, file, handle) k.rising new) (files_insert _ (token, file, handle) files less k.within) tt

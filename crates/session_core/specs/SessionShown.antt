@@ -1,14 +1,15 @@
 -- How the parts of a session slot show its state.
-use Rattle.std.specs.Prelude.{◌≡◌, ℕ, Bool, true, false, ◌==◌, nat_lt, suc, if◌then◌else◌, List, [], ◌∷◌, map, IsTrue}
+use Rattle.std.specs.Prelude.{◌≡◌, ◌<◌, ℕ, Bool, true, false, ◌==◌, nat_lt, suc, if◌then◌else◌, List, [], ◌∷◌, map, IsTrue}
 use Rattle.std.specs.Prelude.{Option, None, Some}
-use Rattle.std.specs.List.{list_any}
+use Rattle.std.specs.List.{list_any, All}
 use Rattle.std.specs.Ordering.{nat_cmp}
 use Rattle.std.specs.FinMap as finmap
+use Rattle.ho_base.specs.declared.limits.TheConstants.{FILES}
 use Rattle.ho_base.specs.declared.numbers.Token.{Token}
 use Rattle.ho_base.specs.declared.numbers.FileNo.{FileNo}
 use Rattle.ho_events.specs.Lists.{same_bytes}
 use Rattle.ho_events.specs.Session.{SessionState, Free, Out, In, Listed}
-use Rattle.ho_events.specs.Sequences.{Reference}
+use Rattle.ho_events.specs.Contents.{Reference}
 use Rattle.ho_events.specs.History.{session_from}
 use Rattle.ho_events.specs.declared.entry.Entry.{Entry}
 use Rattle.session_core.specs.declared.opening.Incoming.{Incoming}
@@ -24,6 +25,10 @@ reference f = record { token = f.0.0; file = f.1.0; handle = f.2 }
 -- the tokens strictly rise
 abbrev pub TokensRise : List (Token × FileNo × ℕ) → Type 0
 TokensRise files = IsTrue (finmap.is_sorted nat_cmp (map listed files))
+
+-- each of the files has a file number
+abbrev pub AreFiles : List (Token × FileNo × ℕ) → Type 0
+AreFiles files = All (λ f. f.1.0 < FILES) files
 
 -- one of the files has this token
 abbrev pub has_token : ℕ → List (Token × FileNo × ℕ) → Bool
@@ -64,8 +69,9 @@ HasOneSide (Some i) name files = name ≡ None
 HasOneSide None None files = files ≡ []
 HasOneSide None (Some name) files = Unit {0}
 
--- the history is a run from the start to the state that the parts show
+-- the history is a run from the start to the state that the parts show, and what is listed are files
 pub record KeepsSession (start : SessionState) (history : List Entry) (incoming : Option Incoming) (name : Option (List ℕ)) (files : List (Token × FileNo × ℕ)) : Type 0 where
   pub replayed : session_from start history ≡ Some (shown incoming name files)
   pub rising : TokensRise files
+  pub within : AreFiles files
   pub side : HasOneSide incoming name files

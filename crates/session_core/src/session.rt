@@ -1,16 +1,17 @@
 //! A session slot: free, or the outgoing or incoming session of a name with its files.
 
 ghost use Rattle.std.specs.Prelude.{◌≡◌, ◌+◌, ◌<◌, ◌≤◌, ◌^◌, ◌↔◌, ◌++◌, ◌∷◌, [], None, OnOk, IfSome, IsTrue, is_some, length, map, nat_le};
-ghost use Rattle.ho_base.specs.declared.limits.TheConstants.{SESSION_FILES};
+ghost use Rattle.ho_base.specs.declared.limits.TheConstants.{FILES, SESSION_FILES};
 ghost use Rattle.ho_events.specs.History.{last_stamp, session_from};
-ghost use Rattle.ho_events.specs.Sequences.{object_at, session_content, OfFiles};
+ghost use Rattle.ho_events.specs.Contents.{session_content, OfFiles};
+ghost use Rattle.ho_events.specs.Places.{object_at};
 ghost use Rattle.ho_events.specs.Slips.{entry_at};
 ghost use Rattle.ho_events.specs.declared.event.Event.TheVariants.{SessionBegin, SessionAdd, SessionClose};
 ghost use Rattle.ho_events.specs.declared.reply.Reply.TheVariants.{Ok, NoSession};
 ghost use Rattle.ho_events.specs.Session.{Free, is_out, admits, session_step};
 ghost use Rattle.ho_events.specs.PlainTurns.{EventIsPlain, ReplyIsPlain};
 ghost use Rattle.session_core.specs.Sessions.{IsFree, name_of, refusal_by, refusal_of, is_loss, add_answer, close_answer};
-ghost use Rattle.session_core.specs.SessionShown.{reference, TokensRise, has_none, has_token, is_named, smaller};
+ghost use Rattle.session_core.specs.SessionShown.{reference, AreFiles, TokensRise, has_none, has_token, is_named, smaller};
 ghost use Rattle.session_core.specs.SessionValues.{SessionIs};
 
 use crate::opening::{Incoming, Opening};
@@ -37,7 +38,7 @@ pub struct SessionObject {
     incoming: Option<Incoming>,
     /// The name of the outgoing session, where the slot has one.
     name: Option<Name>,
-    /// The files with their handles, in strictly rising tokens.
+    /// The files with their handles, in strictly rising tokens; each is a file number.
     files: Vec<(Token, FileNo, u64)>,
     history: Vec<Entry>,
 }
@@ -137,11 +138,12 @@ impl SessionObject {
         is_name(self.name, name)
     }
 
-    /// The session's files with their handles, in strictly rising tokens.
+    /// The session's files with their handles, in strictly rising tokens; each is a file number.
     #[tactic(auto, using(crate::proofs::Sessions::content_kept))]
     pub fn files(&self) -> &[(Token, FileNo, u64)]
         ensures content { session_content (session_from self.now.start self.now.history) ≡ OfFiles (map reference result.now) }
         ensures rising { TokensRise result.now }
+        ensures within { AreFiles result.now }
     {
         self.files.as_slice()
     }
@@ -196,6 +198,7 @@ impl SessionObject {
         handle: u64,
         lost: Option<Reply>,
     ) -> Turned<Reply>
+        requires file { file.0 < FILES }
         requires lost { IfSome lost (λ reply. IsTrue (is_loss reply)) }
         requires spare { SessionIs self.old (λ s. IsTrue (admits s name token.0)) → lost ≡ None → 0 < self.old.spare }
         requires room { 0 < self.old.room }
@@ -271,6 +274,7 @@ impl SessionObject {
         handle: u64,
     ) -> Turned<Reply>
         requires admitted { SessionIs self.old (λ s. IsTrue (admits s name token.0)) }
+        requires file { file.0 < FILES }
         requires spare { 0 < self.old.spare }
         requires room { 0 < self.old.room }
         requires agent_stamp { slip.at.last < 2 ^ 63 }

@@ -1,7 +1,7 @@
 -- What holds of a script, whatever bytes spell it: the numbers of its commands, and their arguments.
 use Rattle.std.specs.Prelude.{ℕ, ◌+◌, Bool, true, false, not, ◌&&◌, ◌==◌, nat_le, if◌then◌else◌, List, [], ◌∷◌, ◌++◌, length}
 use Rattle.std.specs.List.{list_all}
-use Rattle.ho_base.specs.declared.limits.TheConstants.{MIN_FRAMES, MAX_FRAMES, MAX_ORDER, WRITE_BYTES, DEVICE_BYTES, READ_BYTES, KEXECS, COMMANDS}
+use Rattle.ho_base.specs.declared.limits.TheConstants.{MIN_FRAMES, MAX_FRAMES, MAX_ORDER, WRITE_BYTES, DEVICE_BYTES, READ_BYTES, AGENTS, KEXECS, COMMANDS}
 use Rattle.ho_events.specs.Script.Unbuilt.{is_unbuilt_verb, is_unbuilt_command}
 use Rattle.ho_events.specs.declared.command.Command.{Command}
 use Rattle.ho_events.specs.declared.command.Command.TheVariants as command
@@ -107,14 +107,14 @@ is_alone (block.Kexec blob) = true
 abbrev pub is_small_script : Script → Bool
 is_small_script script = nat_le (total_commands (sections_of script.blocks)) COMMANDS && list_all is_alone script.blocks
 
--- A script so far has one kernel and one agent: no planned failures, and at most one round, of at most one
--- section, which is that of the first agent.
-abbrev pub is_first_section : AgentWork → Bool
-is_first_section work = work.agent.0 == 1
+-- A script so far has one kernel, and its agents work one after another: no failures are planned, and each block
+-- is a round of at most one section, of an agent whose number is from 1 to 15.
+abbrev pub is_agent_section : AgentWork → Bool
+is_agent_section work = nat_le 1 work.agent.0 && nat_le work.agent.0 AGENTS
 
 abbrev pub is_single_block : Block → Bool
-is_single_block (block.Round works) = nat_le (length works) 1 && list_all is_first_section works
+is_single_block (block.Round works) = nat_le (length works) 1 && list_all is_agent_section works
 is_single_block (block.Kexec blob) = false
 
 abbrev pub is_single_script : Script → Bool
-is_single_script script = length script.fails == 0 && nat_le (length script.blocks) 1 && list_all is_single_block script.blocks
+is_single_script script = length script.fails == 0 && list_all is_single_block script.blocks

@@ -1,6 +1,7 @@
 //! Words that are put behind a text, each behind a blank.
 
 ghost use Rattle.std.specs.Prelude.{◌≡◌, ◌++◌, decimal, OnOk};
+ghost use Rattle.hex.specs.Hex.{encode_lower};
 ghost use Rattle.ho_events.specs.Appended.{put};
 ghost use Rattle.ho_events.specs.Text.{after_commas, hex_word, kind_word, runs_word, separated};
 
@@ -18,11 +19,12 @@ pub fn put_word(out: &mut Vec<u8>, word: &[u8]) -> Result<(), AllocError>
 }
 
 /// Puts a number, in decimal.
+#[tactic(auto, unfolding(crate::specs::Appended::put))]
 pub fn put_number(out: &mut Vec<u8>, number: u64) -> Result<(), AllocError>
     ensures { OnOk result (out.new.items ≡ put out.old.items (decimal number)) }
 {
-    let mut buffer = Buffer::new();
-    put_word(out, buffer.format(number).as_bytes())
+    put_word(out, &[])?;
+    extend_number(out, number)
 }
 
 /// Puts a number behind a mark, as `f0`.
@@ -35,14 +37,31 @@ pub fn put_marked(out: &mut Vec<u8>, mark: &[u8], number: u64) -> Result<(), All
 }
 
 /// Puts bytes in lower case hexadecimal, and `-` for no bytes.
+#[tactic(auto, unfolding(crate::specs::Appended::put))]
 pub fn put_hex(out: &mut Vec<u8>, bytes: &[u8]) -> Result<(), AllocError>
     ensures { OnOk result (out.new.items ≡ put out.old.items (hex_word bytes.now)) }
 {
     if bytes.is_empty() {
         return put_word(out, b"-");
     }
-    let digits = hex::encode(*out.allocator(), bytes)?;
-    put_word(out, digits.as_bytes())
+    put_word(out, &[])?;
+    extend_hex(out, bytes)
+}
+
+/// Appends bytes in lower case hexadecimal.
+fn extend_hex(out: &mut Vec<u8>, bytes: &[u8]) -> Result<(), AllocError>
+    ensures { OnOk result (out.new.items ≡ out.old.items ++ encode_lower bytes.now) }
+{
+    let start = out.len();
+    let Some(digits) = bytes.len().checked_mul(2) else {
+        return Err(AllocError);
+    };
+    let Some(end) = start.checked_add(digits) else {
+        return Err(AllocError);
+    };
+    out.resize(end, 0)?;
+    hex::encode_to_slice(bytes, &mut out[start..]).unwrap();
+    Ok(())
 }
 
 /// Puts the word of a file's kind.
@@ -90,10 +109,15 @@ fn extend_after_commas(out: &mut Vec<u8>, runs: &[Pfn]) -> Result<(), AllocError
     Ok(())
 }
 
-/// Appends a number, in decimal.
+/// Appends a number, in decimal. Most numbers have one digit, which needs no buffer.
+#[tactic(auto, using(std::proofs::lemmas::Fmt::decimal_digit))]
 pub fn extend_number(out: &mut Vec<u8>, number: u64) -> Result<(), AllocError>
     ensures { OnOk result (out.new.items ≡ out.old.items ++ decimal number) }
 {
+    if number < 10 {
+        out.push(b'0' + number as u8)?;
+        return Ok(());
+    }
     let mut buffer = Buffer::new();
     out.extend_from_slice(buffer.format(number).as_bytes())
 }

@@ -1,36 +1,121 @@
-//! The command `close`, from the question for the session on.
+//! The command `close`.
 
-ghost use Rattle.std.specs.Prelude.{◌≡◌, ◌<◌, ◌∷◌, [], IfOk, IfErr, OnOk, None, Some, IsTrue, is_some, true, false};
-ghost use Rattle.ho_base.specs.Objects.{session_no};
-ghost use Rattle.ho_events.specs.History.{session_after, session_from};
-ghost use Rattle.ho_events.specs.Session.{Free, is_out};
-ghost use Rattle.ho_events.specs.Sequences.{OfFiles, session, registry, done, session_content};
+ghost use Rattle.std.specs.Prelude.{◌≡◌, ◌<◌, ◌∷◌, [], IfOk, IfErr, OnOk, IsTrue, List, false};
+ghost use Rattle.ho_base.specs.Objects.{registry_no, session_no};
+ghost use Rattle.ho_events.specs.Session.{is_out};
+ghost use Rattle.ho_world.specs.Acts.{Claim};
+ghost use Rattle.ho_world.specs.Logs.{AreClaimed, deed_at, end_with};
+ghost use Rattle.ho_world.specs.Sequences.{Labels};
 ghost use Rattle.phys_frames.specs.Memory.{AreOf};
-ghost use Rattle.machine_core.specs.Machine.{Agent, no_hands};
-ghost use Rattle.luo_calls.specs.Outcomes.{close_outcome, close_rest, files_in, IsCloseRest};
 ghost use Rattle.session_core.specs.SessionValues.{SessionIs};
-ghost use Rattle.luo_calls.specs.Turns.{IsReady, SameAgent, Did, Came};
+ghost use Rattle.machine_core.specs.Agents.{Agent, begun, no_hands};
+ghost use Rattle.machine_core.specs.Commands.{Comes, Halts};
+ghost use Rattle.machine_core.specs.Turns.{IsReady, Goes};
+ghost use Rattle.luo_calls.specs.Closing.{ClosesSlot, HasFree};
+ghost use Rattle.luo_calls.specs.Doing.{SticksAfter};
+ghost use Rattle.luo_calls.specs.Opened.{Holds, without};
 
-use crate::commands::close_files::{close_files, end_session};
-use crate::commands::preserve::let_go;
-use crate::done::end_command;
-use crate::halt::{Halt, Stopped, empty_handed};
-use crate::told::CloseTold;
+use crate::commands::close_files::{are_all_different, close_files};
+use crate::stuck::{Stopped, Stuck, empty_handed, release};
+use crate::turns::done::end_command;
+use crate::turns::open::open_session;
 use crate::turns::registry::{drop_name, find_out};
+use crate::turns::resume::under;
+use crate::turns::session::end_session;
 use ho_base::limits::OUT_SLOTS;
 use ho_base::name::Name;
-use ho_base::numbers::SlotNo;
+use ho_base::numbers::{ObjectNo, SlotNo};
 use ho_events::command::Command;
 use ho_events::event::Event;
 use ho_events::reply::Reply;
-use ho_events::slip::At;
-use machine_core::{Labels, Reach, begin_session};
+use ho_events::slip::{At, Listed};
+use machine_core::{Halt, Object, Reach};
+use phys_frames::folio::Folio;
 use session_core::SessionObject;
 use std::alloc::Global;
-use std::snapshot::Snapshot;
 
-/// Ends a session that isn't outgoing with the name any more: nothing changes.
-#[tactic(auto, using(crate::proofs::Closes::closed_says))]
+/// Unpreserves the files of an outgoing session, in rising tokens, and ends it with its name: refused with `NoSession`
+/// where no session of the name is outgoing. It costs what the files give back, and compares each two of their numbers.
+///
+/// # Errors
+///
+/// The halt of a command that stops in the middle, with the folios that it had in hand. A session that lists a file
+/// twice is broken.
+pub fn close<R: Reach>(
+    alloc: Global,
+    reach: &mut R,
+    at: &mut At,
+    name: Name,
+) -> Result<Reply, (Vec<Folio>, Halt)>
+    requires ready { IsReady at.old (R.shown reach.old) }
+    requires free { (R.shown reach.old).hands ≡ no_hands }
+    ensures comes { IfOk result (λ reply. (labels : Labels) → Comes labels labels (Command.Close name) reply at.old at.new (R.shown reach.old) (R.shown reach.new)) }
+    ensures halts { IfErr result (λ h. (labels : Labels) → Halts labels labels h.1 at.old at.new (R.shown reach.old) (R.shown reach.new)) }
+    ensures given_up { IfErr result (λ h. AreOf (R.shown reach.old).anchor.home h.0.items) }
+{
+    match close_turns(alloc, reach, at, name) {
+        Ok(reply) => Ok(reply),
+        Err(Stopped { folios, stuck }) => Err((folios, release(reach, stuck))),
+    }
+}
+
+/// The turns of a `close`.
+fn close_turns<R: Reach>(
+    alloc: Global,
+    reach: &mut R,
+    at: &mut At,
+    name: Name,
+) -> Result<Reply, Stopped>
+    requires ready { IsReady at.old (R.shown reach.old) }
+    requires free { (R.shown reach.old).hands ≡ no_hands }
+    ensures comes { IfOk result (λ reply. (labels : Labels) → Comes labels labels (Command.Close name) reply at.old at.new (R.shown reach.old) (R.shown reach.new)) }
+    ensures stopped { IfErr result (λ s. SticksAfter s.stuck at.old at.new (R.shown reach.old) (R.shown reach.new)) }
+    ensures given_up { IfErr result (λ s. AreOf (R.shown reach.old).anchor.home s.folios.items) }
+{
+    let found = match find_out(alloc, reach, at, name) {
+        Ok(found) => found,
+        Err(stuck) => return Err(empty_handed(alloc, stuck)),
+    };
+    match found {
+        Reply::OkSlot(slot) => close_slot(alloc, reach, at, slot, name),
+        Reply::NoSession => match end_command(reach, at, Reply::NoSession) {
+            Ok(()) => Ok(Reply::NoSession),
+            Err(stuck) => Err(empty_handed(alloc, stuck)),
+        },
+        _ => unreachable!(),
+    }
+}
+
+/// Closes the session of a slot. It stays in hand until its turn ends.
+fn close_slot<R: Reach>(
+    alloc: Global,
+    reach: &mut R,
+    at: &mut At,
+    slot: SlotNo,
+    name: Name,
+) -> Result<Reply, Stopped>
+    requires ready { IsReady at.old (R.shown reach.old) }
+    requires free { (R.shown reach.old).hands ≡ no_hands }
+    requires slot { slot.0 < OUT_SLOTS }
+    ensures closes { IfOk result (λ reply. ClosesSlot name slot reply at.old at.new (R.shown reach.old) (R.shown reach.new)) }
+    ensures stopped { IfErr result (λ s. SticksAfter s.stuck at.old at.new (R.shown reach.old) (R.shown reach.new)) }
+    ensures given_up { IfErr result (λ s. AreOf (R.shown reach.old).anchor.home s.folios.items) }
+{
+    let (_, held) = match open_session(alloc, reach, *at, slot, Listed::nothing()) {
+        Ok(opened) => opened,
+        Err(stuck) => return Err(empty_handed(alloc, stuck)),
+    };
+    if held.is_out(name) {
+        close_out(alloc, reach, at, slot, held, name)
+    } else {
+        match close_other(alloc, reach, at, slot, held, name) {
+            Ok(reply) => Ok(reply),
+            Err(stuck) => Err(empty_handed(alloc, stuck)),
+        }
+    }
+}
+
+/// Ends the turn of a session in hand that isn't outgoing with the name any more, and the command: nothing changes.
 fn close_other<R: Reach>(
     alloc: Global,
     reach: &mut R,
@@ -38,39 +123,20 @@ fn close_other<R: Reach>(
     slot: SlotNo,
     held: SessionObject,
     name: Name,
-) -> Result<CloseTold, Halt>
-    requires ready { IsReady (R.shown reach.old) at.old }
+) -> Result<Reply, Stuck>
+    requires ready { IsReady at.old (R.shown reach.old) }
     requires slot { slot.0 < OUT_SLOTS }
-    requires number { held.number ≡ session_no slot.0 }
-    requires hands { (R.shown reach.old).hands ≡ record no_hands { session = Some (record { number = session_no slot.0; history = held.history }) } }
-    requires run { IsTrue (is_some (session_from held.start held.history)) }
-    requires start { held.start ≡ Free }
-    requires other { SessionIs held (λ s. false ≡ is_out s name) }
-    ensures ready { IsReady (R.shown reach.new) at.new }
-    ensures command { at.new.command ≡ at.old.command }
-    ensures same { SameAgent (R.shown reach.old) (R.shown reach.new) }
-    ensures hands { (R.shown reach.new).hands ≡ no_hands }
-    ensures rest { IfOk result (IsCloseRest slot) }
-    ensures did { IfOk result (λ told. Did at.old.command (close_rest name told) (R.shown reach.old) (R.shown reach.new)) }
+    requires holds { Holds (session_no slot.0) (R.shown reach.old) (Object.Session held) }
+    requires other { SessionIs held (λ s. is_out s name ≡ false) }
+    ensures closes { IfOk result (λ reply. ClosesSlot name slot reply at.old at.new (without (session_no slot.0) (R.shown reach.old)) (R.shown reach.new)) }
+    ensures sticks { IfErr result (λ stuck. SticksAfter stuck at.old at.new (without (session_no slot.0) (R.shown reach.old)) (R.shown reach.new)) }
 {
-    let told = files_of(&held);
-    let reply = end_session(alloc, reach, at, slot, held, name)?;
-    end_command(reach, at, reply)?;
-    Ok(CloseTold::NotOut(slot, told))
+    end_session(alloc, reach, at, slot, held, name)?;
+    end_command(reach, at, Reply::NoSession)?;
+    Ok(Reply::NoSession)
 }
 
-/// A session as it is, whose files are told.
-fn files_of(held: &SessionObject) -> Snapshot<SessionObject>
-    requires start { held.now.start ≡ Free }
-    ensures value { result.value ≡ held.now }
-    ensures files { session_content (session_after held.now.history) ≡ OfFiles (files_in (session_content (session_after held.now.history))) }
-{
-    let _files = held.files();
-    Snapshot::of(held)
-}
-
-/// Ends an outgoing session: first its files are let go.
-#[tactic(auto, using(crate::proofs::Closes::closed_parts))]
+/// Ends an outgoing session in hand: first its files are unpreserved.
 fn close_out<R: Reach>(
     alloc: Global,
     reach: &mut R,
@@ -78,37 +144,37 @@ fn close_out<R: Reach>(
     slot: SlotNo,
     held: SessionObject,
     name: Name,
-) -> Result<CloseTold, Stopped>
-    requires ready { IsReady (R.shown reach.old) at.old }
+) -> Result<Reply, Stopped>
+    requires ready { IsReady at.old (R.shown reach.old) }
+    requires free { HasFree (R.shown reach.old) }
     requires slot { slot.0 < OUT_SLOTS }
-    requires number { held.number ≡ session_no slot.0 }
-    requires hands { (R.shown reach.old).hands ≡ record no_hands { session = Some (record { number = session_no slot.0; history = held.history }) } }
-    requires run { IsTrue (is_some (session_from held.start held.history)) }
-    requires start { held.start ≡ Free }
-    requires out { SessionIs held (λ s. true ≡ is_out s name) }
-    ensures ready { IsReady (R.shown reach.new) at.new }
-    ensures command { at.new.command ≡ at.old.command }
-    ensures same { SameAgent (R.shown reach.old) (R.shown reach.new) }
-    ensures hands { (R.shown reach.new).hands ≡ no_hands }
-    ensures rest { IfOk result (IsCloseRest slot) }
-    ensures did { IfOk result (λ told. Did at.old.command (close_rest name told) (R.shown reach.old) (R.shown reach.new)) }
-    ensures left { IfErr result (λ s. AreOf (R.shown reach.old).home s.folios.items) }
+    requires holds { Holds (session_no slot.0) (R.shown reach.old) (Object.Session held) }
+    requires out { SessionIs held (λ s. IsTrue (is_out s name)) }
+    ensures closes { IfOk result (λ reply. ClosesSlot name slot reply at.old at.new (without (session_no slot.0) (R.shown reach.old)) (R.shown reach.new)) }
+    ensures stopped { IfErr result (λ s. SticksAfter s.stuck at.old at.new (without (session_no slot.0) (R.shown reach.old)) (R.shown reach.new)) }
+    ensures given_up { IfErr result (λ s. AreOf (R.shown reach.old).anchor.home s.folios.items) }
 {
-    let parts = match close_files(alloc, reach, at, held.files()) {
-        Ok(parts) => parts,
-        Err(stop) => {
-            let_go(reach, slot, held);
-            return Err(stop);
-        }
-    };
+    let number = ObjectNo::of_session(slot);
+    let files = held.files();
+    if !are_all_different(files) {
+        let stuck = Stuck {
+            halt: Halt::Broken(number),
+            held: Some((number, Object::Session(held))),
+        };
+        return Err(empty_handed(alloc, stuck));
+    }
+    if let Err(Stopped { folios, stuck }) = close_files(alloc, reach, at, files) {
+        let stuck = under(reach, number, Object::Session(held), stuck);
+        return Err(Stopped { folios, stuck });
+    }
     match end_out(alloc, reach, at, slot, held, name) {
-        Ok(()) => Ok(CloseTold::Closed(slot, parts)),
-        Err(halt) => Err(empty_handed(alloc, halt)),
+        Ok(()) => Ok(Reply::Ok),
+        Err(stuck) => Err(empty_handed(alloc, stuck)),
     }
 }
 
-/// Ends an outgoing session whose files are let go, its name, and the command.
-#[tactic(auto, using(crate::proofs::Closes::closed_says, crate::proofs::CommandSteps::did_both))]
+/// Ends the turn of an outgoing session in hand whose files are unpreserved, its name, and the command. What is known
+/// of the objects in hand may be read at the session's end.
 fn end_out<R: Reach>(
     alloc: Global,
     reach: &mut R,
@@ -116,79 +182,17 @@ fn end_out<R: Reach>(
     slot: SlotNo,
     held: SessionObject,
     name: Name,
-) -> Result<(), Halt>
-    requires ready { IsReady (R.shown reach.old) at.old }
+) -> Result<(), Stuck>
+    requires ready { IsReady at.old (R.shown reach.old) }
+    requires free { (R.shown reach.old).hands registry_no ≡ None }
     requires slot { slot.0 < OUT_SLOTS }
-    requires number { held.number ≡ session_no slot.0 }
-    requires hands { (R.shown reach.old).hands ≡ record no_hands { session = Some (record { number = session_no slot.0; history = held.history }) } }
-    requires run { IsTrue (is_some (session_from held.start held.history)) }
-    requires start { held.start ≡ Free }
-    requires out { SessionIs held (λ s. true ≡ is_out s name) }
-    ensures ready { IsReady (R.shown reach.new) at.new }
-    ensures command { at.new.command ≡ at.old.command }
-    ensures same { SameAgent (R.shown reach.old) (R.shown reach.new) }
-    ensures hands { (R.shown reach.new).hands ≡ no_hands }
-    ensures did { OnOk result (Did at.old.command (session slot (Event.SessionClose name) Reply.Ok (session_content (session_after held.history)) ∷ registry (Event.RegDropName name) Reply.Ok ∷ done Reply.Ok ∷ []) (R.shown reach.old) (R.shown reach.new)) }
+    requires holds { Holds (session_no slot.0) (R.shown reach.old) (Object.Session held) }
+    requires out { SessionIs held (λ s. IsTrue (is_out s name)) }
+    ensures goes { OnOk result ((claims : List Claim) → AreClaimed (begun (R.shown reach.old)) (R.shown reach.old).hands claims → Goes (deed_at (session_no slot.0) claims (Event.SessionClose name) Reply.Ok ∷ deed_at registry_no [] (Event.RegDropName name) Reply.Ok ∷ end_with Reply.Ok ∷ []) at.old at.new (without (session_no slot.0) (R.shown reach.old)) (R.shown reach.new)) }
+    ensures sticks { IfErr result (λ stuck. SticksAfter stuck at.old at.new (without (session_no slot.0) (R.shown reach.old)) (R.shown reach.new)) }
 {
-    let reply = end_session(alloc, reach, at, slot, held, name)?;
+    end_session(alloc, reach, at, slot, held, name)?;
     drop_name(alloc, reach, at, name)?;
-    end_command(reach, at, reply)
-}
-
-/// Closes the session of a slot.
-fn close_in<R: Reach>(
-    alloc: Global,
-    reach: &mut R,
-    at: &mut At,
-    slot: SlotNo,
-    name: Name,
-) -> Result<CloseTold, Stopped>
-    requires ready { IsReady (R.shown reach.old) at.old }
-    requires slot { slot.0 < OUT_SLOTS }
-    requires free { (R.shown reach.old).hands ≡ no_hands }
-    ensures ready { IsReady (R.shown reach.new) at.new }
-    ensures command { at.new.command ≡ at.old.command }
-    ensures same { SameAgent (R.shown reach.old) (R.shown reach.new) }
-    ensures hands { (R.shown reach.new).hands ≡ no_hands }
-    ensures rest { IfOk result (IsCloseRest slot) }
-    ensures did { IfOk result (λ told. Did at.old.command (close_rest name told) (R.shown reach.old) (R.shown reach.new)) }
-    ensures left { IfErr result (λ s. AreOf (R.shown reach.old).home s.folios.items) }
-{
-    let held = begin_session(reach, slot);
-    if held.is_out(name) {
-        return close_out(alloc, reach, at, slot, held, name);
-    }
-    match close_other(alloc, reach, at, slot, held, name) {
-        Ok(told) => Ok(told),
-        Err(halt) => Err(empty_handed(alloc, halt)),
-    }
-}
-
-/// Unpreserves the files of an outgoing session, in rising tokens, and ends it.
-#[tactic(auto, using(crate::proofs::Closes::close_came))]
-pub fn close<R: Reach>(
-    alloc: Global,
-    reach: &mut R,
-    labels: &Labels,
-    at: &mut At,
-    name: Name,
-) -> Result<CloseTold, Stopped>
-    requires ready { IsReady (R.shown reach.old) at.old }
-    requires free { (R.shown reach.old).hands ≡ no_hands }
-    ensures ready { IsReady (R.shown reach.new) at.new }
-    ensures command { at.new.command ≡ at.old.command }
-    ensures same { SameAgent (R.shown reach.old) (R.shown reach.new) }
-    ensures hands { (R.shown reach.new).hands ≡ no_hands }
-    ensures came { IfOk result (λ told. Came labels.now.bound (Command.Close name) at.old.command (close_outcome told) (R.shown reach.old) (R.shown reach.new)) }
-    ensures left { IfErr result (λ s. AreOf (R.shown reach.old).home s.folios.items) }
-{
-    match find_out(alloc, reach, at, name) {
-        Ok(Reply::OkSlot(slot)) => close_in(alloc, reach, at, slot, name),
-        Ok(Reply::NoSession) => match end_command(reach, at, Reply::NoSession) {
-            Ok(()) => Ok(CloseTold::NoSuchName),
-            Err(halt) => Err(empty_handed(alloc, halt)),
-        },
-        Ok(_) => unreachable!(),
-        Err(halt) => Err(empty_handed(alloc, halt)),
-    }
+    end_command(reach, at, Reply::Ok)?;
+    Ok(())
 }

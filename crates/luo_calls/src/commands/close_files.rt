@@ -1,57 +1,73 @@
-//! The command `close`.
+//! The files of a session that ends: the part of each, one after another.
 
-ghost use Rattle.std.specs.Prelude.{vec_len, ◌^◌, length, ◌≡◌, ◌<◌, ◌∷◌, ◌++◌, [], IfOk, IfErr, OnOk, OnErr, None, Some, is_some, IsTrue, true, false, map};
-ghost use Rattle.std.specs.List.{flat_map};
-ghost use Rattle.ho_base.specs.Objects.{session_no};
-ghost use Rattle.ho_events.specs.History.{session_after, session_from};
-ghost use Rattle.ho_events.specs.Session.{Free, is_out};
-ghost use Rattle.ho_events.specs.Sequences.{close_part, closed_reference, session, session_content, OfFiles, registry, pool, unless_empty};
-ghost use Rattle.phys_frames.specs.Memory.{AreOf};
-ghost use Rattle.machine_core.specs.Machine.{Agent, no_hands};
-ghost use Rattle.luo_calls.specs.Closes.{IsPart};
-ghost use Rattle.luo_calls.specs.Outcomes.{close_outcome, closed_file, kept_reference};
-ghost use Rattle.phys_frames.specs.Memory.{first_frames};
-ghost use Rattle.session_core.specs.Sessions.{close_answer};
-ghost use Rattle.luo_calls.specs.Turns.{IsReady, SameAgent, Did, Came};
-ghost use Rattle.session_core.specs.SessionValues.{SessionIs};
+ghost use Rattle.std.specs.Prelude.{◌≡◌, ◌<◌, ◌≤◌, ◌^◌, ◌∷◌, [], IfErr, OnErr, OnOk, None, length, vec_len};
+ghost use Rattle.ho_base.specs.Objects.{pool_no, registry_no};
+ghost use Rattle.ho_events.specs.Slips.{reply_runs};
+ghost use Rattle.ho_world.specs.Logs.{deed_at};
+ghost use Rattle.phys_frames.specs.Memory.{AreOf, first_frames};
+ghost use Rattle.session_core.specs.SessionShown.{AreFiles};
+ghost use Rattle.machine_core.specs.Agents.{Agent};
+ghost use Rattle.machine_core.specs.Turns.{IsReady, Goes};
+ghost use Rattle.luo_calls.specs.Closing.{HasClosed, HasFree, after_unpin, deeds, given_back, has_number, have_own_numbers, unmarked};
+ghost use Rattle.luo_calls.specs.Doing.{SticksAfter};
+ghost use Rattle.luo_calls.specs.Replies.{IsGivenUp, IsUnpinReply};
+ghost use Rattle.luo_calls.specs.Stuck.{Sticks};
 
-use crate::commands::preserve::let_go;
-use crate::halt::{Halt, Stopped, empty_handed, may_turn, slip_for};
-use crate::told::ClosedTold;
+use crate::stuck::{Stopped, Stuck, empty_handed};
 use crate::turns::file::unpin;
 use crate::turns::pool::{give, unmark};
 use crate::turns::registry::free_file;
 use ho_base::Items;
-use ho_base::limits::{FILES, OUT_SLOTS};
-use ho_base::name::Name;
-use ho_base::numbers::{FileNo, ObjectNo, Order, Pfn, SlotNo, Token};
-use ho_events::chronicle::Recorded;
+use ho_base::limits::FILES;
+use ho_base::numbers::{FileNo, Order, Pfn, Token};
 use ho_events::event::Event;
 use ho_events::reply::Reply;
-use ho_events::slip::{At, Listed, Turned};
-use machine_core::{Object, Reach};
+use ho_events::slip::At;
+use machine_core::{Halt, Reach};
 use phys_frames::folio::Folio;
-use session_core::SessionObject;
 use std::alloc::Global;
-use std::snapshot::Snapshot;
 
-/// Lets the pinned frames of a file's runs go, where it has some.
+/// A file as its session keeps it: its token, its number and its handle.
+pub type Kept = (Token, FileNo, u64);
+
+/// Whether no file stands twice. It compares each two of them.
+#[tactic(auto, using(crate::proofs::Closes::repeats, crate::proofs::Closes::goes_on, crate::proofs::Closes::none_repeats))]
+pub fn are_all_different(files: &[Kept]) -> bool
+    ensures { result ≡ have_own_numbers files.now }
+{
+    let mut left = files;
+    while let Some((kept, rest)) = left.split_first() {
+        if is_among(rest, kept.1) {
+            return false;
+        }
+        left = rest;
+    }
+    true
+}
+
+/// Whether a file is one of these.
+#[tactic(auto, unfolding(crate::specs::Closing::has_number))]
+fn is_among(files: &[Kept], file: FileNo) -> bool
+    ensures { result ≡ has_number file.0 files.now }
+{
+    files.iter().any(|f| f.1.0 == file.0)
+}
+
+/// Ends the pins of a file's runs, where it has some.
 fn unmark_any<R: Reach>(
     alloc: Global,
     reach: &mut R,
     at: &mut At,
     order: Order,
     runs: &[Pfn],
-) -> Result<(), Halt>
-    requires ready { IsReady (R.shown reach.old) at.old }
-    requires free { (R.shown reach.old).hands.pool ≡ None }
+) -> Result<(), Stuck>
+    requires ready { IsReady at.old (R.shown reach.old) }
+    requires free { (R.shown reach.old).hands pool_no ≡ None }
     requires single { order.0 ≡ 0 }
     requires few { length runs.now < 2 ^ 32 }
-    ensures ready { IsReady (R.shown reach.new) at.new }
-    ensures command { at.new.command ≡ at.old.command }
-    ensures same { SameAgent (R.shown reach.old) (R.shown reach.new) }
-    ensures hands { (R.shown reach.new).hands ≡ (R.shown reach.old).hands }
-    ensures ok { OnOk result (Did at.old.command (unless_empty runs.now (pool (Event.PoolUnmark order runs.now) Reply.Ok)) (R.shown reach.old) (R.shown reach.new)) }
+    ensures goes { OnOk result (Goes (deeds (unmarked order runs.now)) at.old at.new (R.shown reach.old) (R.shown reach.new)) }
+    ensures sticks { IfErr result (λ stuck. Sticks at.old stuck (R.shown reach.old) (R.shown reach.new)) }
+    ensures same_at { OnErr result (at.new ≡ at.old) }
 {
     match runs {
         [] => Ok(()),
@@ -59,25 +75,23 @@ fn unmark_any<R: Reach>(
     }
 }
 
-/// Gives folios back, where there are some. The list is empty afterwards.
+/// Gives folios back, where there are some. The list is empty afterwards; where the turn isn't taken, it is as it was.
 fn give_any<R: Reach>(
     alloc: Global,
     reach: &mut R,
     at: &mut At,
     order: Order,
     folios: &mut Vec<Folio>,
-) -> Result<(), Halt>
-    requires ready { IsReady (R.shown reach.old) at.old }
-    requires free { (R.shown reach.old).hands.pool ≡ None }
+) -> Result<(), Stuck>
+    requires ready { IsReady at.old (R.shown reach.old) }
+    requires free { (R.shown reach.old).hands pool_no ≡ None }
     requires single { order.0 ≡ 0 }
     requires few { vec_len folios.old < 2 ^ 32 }
-    requires of_home { AreOf (R.shown reach.old).home folios.old.items }
-    ensures ready { IsReady (R.shown reach.new) at.new }
-    ensures command { at.new.command ≡ at.old.command }
-    ensures same { SameAgent (R.shown reach.old) (R.shown reach.new) }
-    ensures hands { (R.shown reach.new).hands ≡ (R.shown reach.old).hands }
-    ensures ok { OnOk result (Did at.old.command (unless_empty (first_frames folios.old.items) (pool (Event.PoolGive order (first_frames folios.old.items)) Reply.Ok)) (R.shown reach.old) (R.shown reach.new)) }
+    requires of_home { AreOf (R.shown reach.old).anchor.home folios.old.items }
+    ensures goes { OnOk result (Goes (deeds (given_back order (first_frames folios.old.items))) at.old at.new (R.shown reach.old) (R.shown reach.new)) }
     ensures given { OnOk result (folios.new.items ≡ []) }
+    ensures sticks { IfErr result (λ stuck. Sticks at.old stuck (R.shown reach.old) (R.shown reach.new)) }
+    ensures same_at { OnErr result (at.new ≡ at.old) }
     ensures kept { OnErr result (folios.new.items ≡ folios.old.items) }
 {
     match folios.as_slice() {
@@ -86,206 +100,124 @@ fn give_any<R: Reach>(
     }
 }
 
-/// What stands in a session of a file: its token, its number and its handle.
-pub type Kept = (Token, FileNo, u64);
-
-/// The rest of a file's part where a label still has it.
-fn close_kept<R: Reach>(
-    alloc: Global,
-    reach: &mut R,
-    at: &mut At,
-    kept: Kept,
-    order: Order,
-    runs: Items<Pfn>,
-) -> Result<ClosedTold, Halt>
-    requires ready { IsReady (R.shown reach.old) at.old }
-    requires pool_free { (R.shown reach.old).hands.pool ≡ None }
-    requires single { order.0 ≡ 0 }
-    requires few { length runs < 2 ^ 32 }
-    ensures ready { IsReady (R.shown reach.new) at.new }
-    ensures command { at.new.command ≡ at.old.command }
-    ensures same { SameAgent (R.shown reach.old) (R.shown reach.new) }
-    ensures hands { (R.shown reach.new).hands ≡ (R.shown reach.old).hands }
-    ensures did { IfOk result (λ c. Did at.old.command (unless_empty runs (pool (Event.PoolUnmark order runs) Reply.Ok)) (R.shown reach.old) (R.shown reach.new)) }
-    ensures told { IfOk result (λ c. IsPart c kept order runs false) }
-{
-    unmark_any(alloc, reach, at, order, runs.as_slice())?;
-    Ok(ClosedTold {
-        token: kept.0,
-        number: kept.1,
-        handle: kept.2,
-        order,
-        runs: Snapshot::of(&runs),
-        gone: false,
-    })
-}
-
 /// The rest of a file's part where nothing has it any more: its folios go back, and its number.
-#[tactic(auto, using(crate::proofs::CommandSteps::did_both, crate::proofs::Closes::given_few))]
 fn close_gone<R: Reach>(
     alloc: Global,
     reach: &mut R,
     at: &mut At,
-    kept: Kept,
+    file: FileNo,
     order: Order,
-    runs: Items<Pfn>,
+    runs: &[Pfn],
     given: &mut Vec<Folio>,
-) -> Result<ClosedTold, Halt>
-    requires ready { IsReady (R.shown reach.old) at.old }
-    requires pool_free { (R.shown reach.old).hands.pool ≡ None }
-    requires registry_free { (R.shown reach.old).hands.registry ≡ None }
-    requires file { kept.1.0 < FILES }
+) -> Result<(), Stuck>
+    requires ready { IsReady at.old (R.shown reach.old) }
+    requires free { HasFree (R.shown reach.old) }
+    requires file { file.0 < FILES }
     requires single { order.0 ≡ 0 }
-    requires few { length runs < 2 ^ 32 }
-    requires given { first_frames given.old.items ≡ runs }
-    requires of_home { AreOf (R.shown reach.old).home given.old.items }
-    ensures ready { IsReady (R.shown reach.new) at.new }
-    ensures command { at.new.command ≡ at.old.command }
-    ensures same { SameAgent (R.shown reach.old) (R.shown reach.new) }
-    ensures hands { (R.shown reach.new).hands ≡ (R.shown reach.old).hands }
-    ensures did { IfOk result (λ c. Did at.old.command (unless_empty runs (pool (Event.PoolUnmark order runs) Reply.Ok) ++ (unless_empty runs (pool (Event.PoolGive order runs) Reply.Ok) ++ registry (Event.RegFreeFile kept.1) Reply.Ok ∷ [])) (R.shown reach.old) (R.shown reach.new)) }
-    ensures told { IfOk result (λ c. IsPart c kept order runs true) }
+    requires few { length runs.now ≤ 1 }
+    requires given { IsGivenUp (R.shown reach.old).anchor.home (Reply.Gone runs.now) given.old.items }
+    ensures goes { OnOk result (Goes (deeds (after_unpin file order (Reply.Gone runs.now))) at.old at.new (R.shown reach.old) (R.shown reach.new)) }
     ensures given { OnOk result (given.new.items ≡ []) }
-    ensures left { OnErr result (AreOf (R.shown reach.old).home given.new.items) }
+    ensures sticks { IfErr result (λ stuck. SticksAfter stuck at.old at.new (R.shown reach.old) (R.shown reach.new)) }
+    ensures given_up { OnErr result (AreOf (R.shown reach.old).anchor.home given.new.items) }
 {
-    unmark_any(alloc, reach, at, order, runs.as_slice())?;
+    unmark_any(alloc, reach, at, order, runs)?;
     give_any(alloc, reach, at, order, given)?;
-    free_file(alloc, reach, at, kept.1)?;
-    Ok(ClosedTold {
-        token: kept.0,
-        number: kept.1,
-        handle: kept.2,
-        order,
-        runs: Snapshot::of(&runs),
-        gone: true,
-    })
+    free_file(alloc, reach, at, file)?;
+    Ok(())
 }
 
-/// The part of one file in a `close`.
-#[tactic(auto, using(crate::proofs::Closes::kept_part, crate::proofs::Closes::gone_part, crate::proofs::Closes::part_reference))]
+/// The rest of a file's part, by what the end of its pin was answered and which folios it gave up.
+fn close_rest<R: Reach>(
+    alloc: Global,
+    reach: &mut R,
+    at: &mut At,
+    file: FileNo,
+    order: Order,
+    reply: Reply,
+    given: &mut Vec<Folio>,
+) -> Result<(), Stuck>
+    requires ready { IsReady at.old (R.shown reach.old) }
+    requires free { HasFree (R.shown reach.old) }
+    requires file { file.0 < FILES }
+    requires single { order.0 ≡ 0 }
+    requires reply { IsUnpinReply reply }
+    requires few { length (reply_runs reply) ≤ 1 }
+    requires given { IsGivenUp (R.shown reach.old).anchor.home reply given.old.items }
+    ensures goes { OnOk result (Goes (deeds (after_unpin file order reply)) at.old at.new (R.shown reach.old) (R.shown reach.new)) }
+    ensures given { OnOk result (given.new.items ≡ []) }
+    ensures sticks { IfErr result (λ stuck. SticksAfter stuck at.old at.new (R.shown reach.old) (R.shown reach.new)) }
+    ensures given_up { OnErr result (AreOf (R.shown reach.old).anchor.home given.new.items) }
+{
+    match reply {
+        Reply::KeptRuns(runs) => unmark_any(alloc, reach, at, order, runs.as_slice()),
+        Reply::Gone(runs) => close_gone(alloc, reach, at, file, order, runs.as_slice(), given),
+        _ => unreachable!(),
+    }
+}
+
+/// The part of one file: its pin ends, and where nothing has it any more, it goes.
 fn close_file<R: Reach>(
     alloc: Global,
     reach: &mut R,
     at: &mut At,
     kept: Kept,
-) -> Result<ClosedTold, Stopped>
-    requires ready { IsReady (R.shown reach.old) at.old }
-    requires pool_free { (R.shown reach.old).hands.pool ≡ None }
-    requires registry_free { (R.shown reach.old).hands.registry ≡ None }
-    requires file_free { (R.shown reach.old).hands.file ≡ None }
-    ensures ready { IsReady (R.shown reach.new) at.new }
-    ensures command { at.new.command ≡ at.old.command }
-    ensures same { SameAgent (R.shown reach.old) (R.shown reach.new) }
-    ensures hands { (R.shown reach.new).hands ≡ (R.shown reach.old).hands }
-    ensures did { IfOk result (λ c. Did at.old.command (close_part (closed_file c)) (R.shown reach.old) (R.shown reach.new)) }
-    ensures told { IfOk result (λ c. closed_reference (closed_file c) ≡ kept_reference kept) }
-    ensures left { IfErr result (λ s. AreOf (R.shown reach.old).home s.folios.items) }
+) -> Result<(), Stopped>
+    requires ready { IsReady at.old (R.shown reach.old) }
+    requires free { HasFree (R.shown reach.old) }
+    requires file { kept.1.0 < FILES }
+    ensures closed { OnOk result (HasClosed (kept ∷ []) at.old at.new (R.shown reach.old) (R.shown reach.new)) }
+    ensures stopped { IfErr result (λ s. SticksAfter s.stuck at.old at.new (R.shown reach.old) (R.shown reach.new)) }
+    ensures given_up { IfErr result (λ s. AreOf (R.shown reach.old).anchor.home s.folios.items) }
 {
-    if u32::from(kept.1.0) >= FILES {
-        return Err(empty_handed(alloc, Halt::Broken(ObjectNo::REGISTRY)));
-    }
     let Ok(mut given) = Vec::with_capacity(alloc, 1) else {
-        return Err(empty_handed(alloc, Halt::Memory));
+        let stuck = Stuck {
+            halt: Halt::Memory,
+            held: None,
+        };
+        return Err(empty_handed(alloc, stuck));
     };
-    match unpin(alloc, reach, at, kept.1, &mut given) {
-        Ok((order, Reply::KeptRuns(runs))) => {
-            given.destroy_empty();
-            match close_kept(alloc, reach, at, kept, order, runs) {
-                Ok(told) => Ok(told),
-                Err(halt) => Err(empty_handed(alloc, halt)),
-            }
-        }
-        Ok((order, Reply::Gone(runs))) => match close_gone(
-            alloc, reach, at, kept, order, runs, &mut given,
-        ) {
-            Ok(told) => {
-                given.destroy_empty();
-                Ok(told)
-            }
-            Err(halt) => Err(Stopped {
+    let (order, reply) = match unpin(alloc, reach, at, kept.1, &mut given) {
+        Ok(unpinned) => unpinned,
+        Err(stuck) => {
+            return Err(Stopped {
                 folios: given,
-                halt,
-            }),
-        },
-        Ok(_) => unreachable!(),
-        Err(halt) => Err(Stopped {
+                stuck,
+            });
+        }
+    };
+    match close_rest(alloc, reach, at, kept.1, order, reply, &mut given) {
+        Ok(()) => {
+            given.destroy_empty();
+            Ok(())
+        }
+        Err(stuck) => Err(Stopped {
             folios: given,
-            halt,
+            stuck,
         }),
     }
 }
 
 /// The parts of a session's files, one after another.
+///
+/// # Errors
+///
+/// The turn that can't be taken, with the folios that a file gave up.
 pub fn close_files<R: Reach>(
     alloc: Global,
     reach: &mut R,
     at: &mut At,
     files: &[Kept],
-) -> Result<Vec<ClosedTold>, Stopped>
-    requires ready { IsReady (R.shown reach.old) at.old }
-    requires pool_free { (R.shown reach.old).hands.pool ≡ None }
-    requires registry_free { (R.shown reach.old).hands.registry ≡ None }
-    requires file_free { (R.shown reach.old).hands.file ≡ None }
-    ensures ready { IsReady (R.shown reach.new) at.new }
-    ensures command { at.new.command ≡ at.old.command }
-    ensures same { SameAgent (R.shown reach.old) (R.shown reach.new) }
-    ensures hands { (R.shown reach.new).hands ≡ (R.shown reach.old).hands }
-    ensures did { IfOk result (λ parts. Did at.old.command (flat_map close_part (map closed_file parts.items)) (R.shown reach.old) (R.shown reach.new)) }
-    ensures told { IfOk result (λ parts. map closed_reference (map closed_file parts.items) ≡ map kept_reference files.now) }
-    ensures left { IfErr result (λ s. AreOf (R.shown reach.old).home s.folios.items) }
+) -> Result<(), Stopped>
+    requires ready { IsReady at.old (R.shown reach.old) }
+    requires free { HasFree (R.shown reach.old) }
+    requires files { AreFiles files.now }
+    ensures closed { OnOk result (HasClosed files.now at.old at.new (R.shown reach.old) (R.shown reach.new)) }
+    ensures stopped { IfErr result (λ s. SticksAfter s.stuck at.old at.new (R.shown reach.old) (R.shown reach.new)) }
+    ensures given_up { IfErr result (λ s. AreOf (R.shown reach.old).anchor.home s.folios.items) }
 {
-    let mut parts = Vec::new(alloc);
     for kept in files {
-        if parts.reserve(1).is_err() {
-            return Err(empty_handed(alloc, Halt::Memory));
-        }
-        let told = close_file(alloc, reach, at, *kept)?;
-        parts.push(told).unwrap();
+        close_file(alloc, reach, at, *kept)?;
     }
-    Ok(parts)
-}
-
-/// Ends the session's turn with its end.
-#[tactic(auto, using(ho_events::proofs::Deeds::deeds_push))]
-pub fn end_session<R: Reach>(
-    alloc: Global,
-    reach: &mut R,
-    at: &mut At,
-    slot: SlotNo,
-    mut held: SessionObject,
-    name: Name,
-) -> Result<Reply, Halt>
-    requires ready { IsReady (R.shown reach.old) at.old }
-    requires slot { slot.0 < OUT_SLOTS }
-    requires number { held.number ≡ session_no slot.0 }
-    requires held { (R.shown reach.old).hands.session ≡ Some (record { number = session_no slot.0; history = held.history }) }
-    requires run { IsTrue (is_some (session_from held.start held.history)) }
-    requires start { held.start ≡ Free }
-    ensures ready { IsReady (R.shown reach.new) at.new }
-    ensures command { at.new.command ≡ at.old.command }
-    ensures same { SameAgent (R.shown reach.old) (R.shown reach.new) }
-    ensures hands { (R.shown reach.new).hands ≡ record (R.shown reach.old).hands { session = None } }
-    ensures answer { IfOk result (λ reply. SessionIs held (λ s. reply ≡ close_answer (is_out s name))) }
-    ensures ok { IfOk result (λ reply. Did at.old.command (session slot (Event.SessionClose name) reply (session_content (session_after held.history)) ∷ []) (R.shown reach.old) (R.shown reach.new)) }
-{
-    let slip = match slip_for(alloc, reach, *at, Listed::nothing()) {
-        Ok(slip) => slip,
-        Err(halt) => {
-            let_go(reach, slot, held);
-            return Err(halt);
-        }
-    };
-    let room = held.reserve(1, 0);
-    if let Err(halt) = may_turn(held.last_stamp(), room) {
-        let_go(reach, slot, held);
-        return Err(halt);
-    }
-    let Turned { entry, value } = held.close(slip, name);
-    at.last = entry.stamp;
-    reach.end(
-        ObjectNo::of_session(slot),
-        Object::Session(held),
-        Some(entry),
-    );
-    Ok(value)
+    Ok(())
 }

@@ -2,31 +2,31 @@
 
 ghost use Rattle.std.specs.Prelude.{◌≡◌, IsTrue};
 ghost use Rattle.ho_events.specs.Script.Rules.{is_built};
-ghost use Rattle.machine_core.specs.Machine.{Agent, no_hands};
-ghost use Rattle.luo_calls.specs.Outcomes.{outcome_of};
-ghost use Rattle.luo_calls.specs.Turns.{IsReady, SameAgent};
-ghost use Rattle.luo_calls.specs.Commands.{CameDone};
+ghost use Rattle.machine_core.specs.Agents.{Agent, no_hands};
+ghost use Rattle.machine_core.specs.Turns.{IsReady};
+ghost use Rattle.luo_calls.specs.Came.{CameTo};
 
 use crate::commands::close::close;
 use crate::commands::create::create;
 use crate::commands::memfd::memfd;
 use crate::commands::preserve::preserve;
+use crate::commands::read::read;
 use crate::commands::write::write;
-use crate::halt::{Halt, Stopped};
-use crate::told::Told;
 use ho_events::command::Command;
+use ho_events::reply::Reply;
 use ho_events::slip::At;
-use machine_core::{Labels, Reach};
+use machine_core::{Halt, Labels, Reach};
 use phys_frames::folio::Folio;
 use std::alloc::Global;
 
-/// How a command ended: done with its last stamp, or stopped in the middle with the folios that were in hand.
+/// How a command ended: done, with its reply and its last stamp, or stopped in the middle, with the folios that were in
+/// hand.
 pub enum Outcome {
-    Done(Told, u64),
+    Done(Reply, u64),
     Halted(Vec<Folio>, Halt),
 }
 
-/// Does one command of an agent, turn by turn.
+/// Does one command of an agent, turn by turn. `at` has the command's number and the agent's last stamp.
 pub fn do_command<R: Reach>(
     alloc: Global,
     reach: &mut R,
@@ -34,38 +34,42 @@ pub fn do_command<R: Reach>(
     at: At,
     command: &Command,
 ) -> Outcome
-    requires ready { IsReady (R.shown reach.old) at }
+    requires ready { IsReady at (R.shown reach.old) }
     requires free { (R.shown reach.old).hands ≡ no_hands }
     requires built { IsTrue (is_built command.now) }
-    ensures same { SameAgent (R.shown reach.old) (R.shown reach.new) }
-    ensures hands { (R.shown reach.new).hands ≡ no_hands }
-    ensures came { CameDone labels.old.bound labels.new.bound command.now at.command (R.shown reach.old) (R.shown reach.new) result }
+    ensures came { CameTo labels.old.bound labels.new.bound command.now at (R.shown reach.old) (R.shown reach.new) result }
 {
     let mut at = at;
     match command {
         Command::Memfd(label, order) => match memfd(alloc, reach, labels, &mut at, *label, *order) {
-            Ok(told) => Outcome::Done(Told::Memfd(told), at.last),
+            Ok(reply) => Outcome::Done(reply, at.last),
             Err(halt) => Outcome::Halted(Vec::new(alloc), halt),
         },
         Command::Write(label, off, bytes) => match write(
             alloc, reach, labels, &mut at, *label, *off, bytes,
         ) {
-            Ok(told) => Outcome::Done(Told::Write(told), at.last),
-            Err(Stopped { folios, halt }) => Outcome::Halted(folios, halt),
+            Ok(reply) => Outcome::Done(reply, at.last),
+            Err((folios, halt)) => Outcome::Halted(folios, halt),
         },
-        Command::Create(name) => match create(alloc, reach, labels, &mut at, *name) {
-            Ok(told) => Outcome::Done(Told::Create(told), at.last),
+        Command::Read(label, off, len) => match read(
+            alloc, reach, labels, &mut at, *label, *off, *len,
+        ) {
+            Ok(reply) => Outcome::Done(reply, at.last),
+            Err(halt) => Outcome::Halted(Vec::new(alloc), halt),
+        },
+        Command::Create(name) => match create(alloc, reach, &mut at, *name) {
+            Ok(reply) => Outcome::Done(reply, at.last),
             Err(halt) => Outcome::Halted(Vec::new(alloc), halt),
         },
         Command::Preserve(name, token, label) => match preserve(
             alloc, reach, labels, &mut at, *name, *token, *label,
         ) {
-            Ok(told) => Outcome::Done(Told::Preserve(told), at.last),
+            Ok(reply) => Outcome::Done(reply, at.last),
             Err(halt) => Outcome::Halted(Vec::new(alloc), halt),
         },
-        Command::Close(name) => match close(alloc, reach, labels, &mut at, *name) {
-            Ok(told) => Outcome::Done(Told::Close(told), at.last),
-            Err(Stopped { folios, halt }) => Outcome::Halted(folios, halt),
+        Command::Close(name) => match close(alloc, reach, &mut at, *name) {
+            Ok(reply) => Outcome::Done(reply, at.last),
+            Err((folios, halt)) => Outcome::Halted(folios, halt),
         },
         _ => unreachable!(),
     }

@@ -1,52 +1,67 @@
 //! The command `create`.
 
-ghost use Rattle.std.specs.Prelude.{◌≡◌, IfOk, None};
-ghost use Rattle.ho_events.specs.Sequences.{Labeled};
-ghost use Rattle.machine_core.specs.Machine.{Agent, no_hands};
-ghost use Rattle.luo_calls.specs.Outcomes.{create_outcome};
-ghost use Rattle.luo_calls.specs.Turns.{IsReady, SameAgent, Came};
+ghost use Rattle.std.specs.Prelude.{◌≡◌, IfOk, IfErr};
+ghost use Rattle.ho_world.specs.Sequences.{Labels};
+ghost use Rattle.machine_core.specs.Agents.{Agent, no_hands};
+ghost use Rattle.machine_core.specs.Commands.{Comes, Halts};
+ghost use Rattle.machine_core.specs.Turns.{IsReady};
+ghost use Rattle.luo_calls.specs.Doing.{SticksAfter};
 
-use crate::done::end_command;
-use crate::halt::Halt;
-use crate::told::CreateTold;
-use crate::turns::registry::create as create_name;
+use crate::stuck::{Stuck, release};
+use crate::turns::done::end_command;
+use crate::turns::registry::create_name;
 use crate::turns::session::begin_out;
 use ho_base::name::Name;
 use ho_events::command::Command;
 use ho_events::reply::Reply;
 use ho_events::slip::At;
-use machine_core::{Labels, Reach};
+use machine_core::{Halt, Reach};
 use std::alloc::Global;
 
-/// Makes a new outgoing session.
+/// Makes a new outgoing session: refused with `NameTaken` where the name is outgoing, then with `SessionsFull` where each
+/// outgoing slot has a name.
 pub fn create<R: Reach>(
     alloc: Global,
     reach: &mut R,
-    labels: &Labels,
     at: &mut At,
     name: Name,
-) -> Result<CreateTold, Halt>
-    requires ready { IsReady (R.shown reach.old) at.old }
+) -> Result<Reply, Halt>
+    requires ready { IsReady at.old (R.shown reach.old) }
     requires free { (R.shown reach.old).hands ≡ no_hands }
-    ensures ready { IsReady (R.shown reach.new) at.new }
-    ensures command { at.new.command ≡ at.old.command }
-    ensures same { SameAgent (R.shown reach.old) (R.shown reach.new) }
-    ensures hands { (R.shown reach.new).hands ≡ no_hands }
-    ensures came { IfOk result (λ told. Came labels.now.bound (Command.Create name) at.old.command (create_outcome told) (R.shown reach.old) (R.shown reach.new)) }
+    ensures comes { IfOk result (λ reply. (labels : Labels) → Comes labels labels (Command.Create name) reply at.old at.new (R.shown reach.old) (R.shown reach.new)) }
+    ensures halts { IfErr result (λ halt. (labels : Labels) → Halts labels labels halt at.old at.new (R.shown reach.old) (R.shown reach.new)) }
+{
+    match create_turns(alloc, reach, at, name) {
+        Ok(reply) => Ok(reply),
+        Err(stuck) => Err(release(reach, stuck)),
+    }
+}
+
+/// The turns of a `create`.
+fn create_turns<R: Reach>(
+    alloc: Global,
+    reach: &mut R,
+    at: &mut At,
+    name: Name,
+) -> Result<Reply, Stuck>
+    requires ready { IsReady at.old (R.shown reach.old) }
+    requires free { (R.shown reach.old).hands ≡ no_hands }
+    ensures comes { IfOk result (λ reply. (labels : Labels) → Comes labels labels (Command.Create name) reply at.old at.new (R.shown reach.old) (R.shown reach.new)) }
+    ensures sticks { IfErr result (λ stuck. SticksAfter stuck at.old at.new (R.shown reach.old) (R.shown reach.new)) }
 {
     match create_name(alloc, reach, at, name)? {
         Reply::OkSlot(slot) => {
             begin_out(alloc, reach, at, slot, name)?;
             end_command(reach, at, Reply::Ok)?;
-            Ok(CreateTold::Created(slot))
+            Ok(Reply::Ok)
         }
         Reply::NameTaken => {
             end_command(reach, at, Reply::NameTaken)?;
-            Ok(CreateTold::Taken)
+            Ok(Reply::NameTaken)
         }
         Reply::SessionsFull => {
             end_command(reach, at, Reply::SessionsFull)?;
-            Ok(CreateTold::Full)
+            Ok(Reply::SessionsFull)
         }
         _ => unreachable!(),
     }

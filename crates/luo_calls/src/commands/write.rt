@@ -2,43 +2,45 @@
 
 ghost use Rattle.std.specs.Prelude.{◌≡◌, ◌+◌, ◌<◌, ◌≤◌, IfOk, IfErr, length};
 ghost use Rattle.ho_base.specs.declared.limits.TheConstants.{PAGE_BYTES};
-ghost use Rattle.ho_events.specs.Sequences.{Labeled};
-ghost use Rattle.machine_core.specs.Machine.{Agent, no_hands};
 ghost use Rattle.phys_frames.specs.Memory.{AreOf};
-ghost use Rattle.luo_calls.specs.Outcomes.{write_outcome};
-ghost use Rattle.luo_calls.specs.Turns.{IsReady, SameAgent, Came};
-ghost use Rattle.luo_calls.specs.Writes.{told_reply};
+ghost use Rattle.machine_core.specs.Agents.{Agent, no_hands};
+ghost use Rattle.machine_core.specs.Commands.{Comes, Halts};
+ghost use Rattle.machine_core.specs.Turns.{IsReady};
+ghost use Rattle.luo_calls.specs.Doing.{SticksAfter};
+ghost use Rattle.luo_calls.specs.Wrote.{answer_of};
 
-use crate::done::end_command;
-use crate::halt::{Halt, Stopped, empty_handed};
-use crate::told::WriteTold;
-use crate::turns::write::write_file;
+use crate::stuck::{Stopped, empty_handed, release};
+use crate::turns::done::end_command;
+use crate::turns::write::{Wrote, write_file};
 use ho_base::Items;
-use ho_base::limits::FILES;
 use ho_base::name::Name;
-use ho_base::numbers::ObjectNo;
 use ho_events::command::Command;
 use ho_events::reply::Reply;
 use ho_events::slip::At;
-use machine_core::{Labels, Reach};
+use machine_core::{Halt, Labels, Reach};
+use phys_frames::folio::Folio;
 use std::alloc::Global;
 
 /// What a write that came out so is answered.
-fn reply_of(told: &WriteTold) -> Reply
-    ensures { result ≡ told_reply told.now }
+fn reply_of(wrote: &Wrote) -> Reply
+    ensures { result ≡ answer_of wrote.now }
 {
-    match told {
-        WriteTold::NoTarget => Reply::BadFd,
-        WriteTold::Frozen(_, _) => Reply::SizeFrozen,
-        WriteTold::Starved(_, _, _) => Reply::NoFrames,
-        WriteTold::Written(_, _, _) => Reply::Ok,
+    match wrote {
+        Wrote::Plain(reply) => match reply {
+            Reply::SizeFrozen => Reply::SizeFrozen,
+            _ => Reply::Ok,
+        },
+        Wrote::Starved(_, _) => Reply::NoFrames,
+        Wrote::Filled(_, _) => Reply::Ok,
     }
 }
 
-/// Writes bytes at an offset of the label's file. It takes runs for the holes that the bytes touch, all or none.
-/// A command that stops in the middle gives up the folios that it had taken. It costs the bytes, and what a take
-/// of so many runs costs.
-#[tactic(auto, using(crate::proofs::WriteSteps::write_came, crate::proofs::WriteSteps::untargeted))]
+/// Writes bytes at an offset of the label's file. It takes runs for the holes that the bytes touch, all or none. It
+/// costs the bytes, and what a take of so many runs costs.
+///
+/// # Errors
+///
+/// The halt of a command that stops in the middle, with the folios that it had in hand.
 pub fn write<R: Reach>(
     alloc: Global,
     reach: &mut R,
@@ -47,33 +49,48 @@ pub fn write<R: Reach>(
     label: Name,
     off: u32,
     bytes: &Items<u8>,
-) -> Result<WriteTold, Stopped>
-    requires ready { IsReady (R.shown reach.old) at.old }
+) -> Result<Reply, (Vec<Folio>, Halt)>
+    requires ready { IsReady at.old (R.shown reach.old) }
     requires free { (R.shown reach.old).hands ≡ no_hands }
     requires some { 0 < length bytes.now }
     requires within { off + length bytes.now ≤ PAGE_BYTES }
-    ensures ready { IsReady (R.shown reach.new) at.new }
-    ensures command { at.new.command ≡ at.old.command }
-    ensures same { SameAgent (R.shown reach.old) (R.shown reach.new) }
-    ensures hands { (R.shown reach.new).hands ≡ no_hands }
-    ensures came { IfOk result (λ told. Came labels.now.bound (Command.Write label off bytes.now) at.old.command (write_outcome told) (R.shown reach.old) (R.shown reach.new)) }
-    ensures given_up { IfErr result (λ s. AreOf (R.shown reach.old).home s.folios.items) }
+    ensures comes { IfOk result (λ reply. Comes labels.now.bound labels.now.bound (Command.Write label off bytes.now) reply at.old at.new (R.shown reach.old) (R.shown reach.new)) }
+    ensures halts { IfErr result (λ h. Halts labels.now.bound labels.now.bound h.1 at.old at.new (R.shown reach.old) (R.shown reach.new)) }
+    ensures given_up { IfErr result (λ h. AreOf (R.shown reach.old).anchor.home h.0.items) }
 {
-    let number = match labels.file(label) {
-        Some(number) => number,
-        None => {
-            return match end_command(reach, at, Reply::BadFd) {
-                Ok(()) => Ok(WriteTold::NoTarget),
-                Err(halt) => Err(empty_handed(alloc, halt)),
-            };
-        }
-    };
-    if number.0 as usize >= FILES as usize {
-        return Err(empty_handed(alloc, Halt::Broken(ObjectNo::REGISTRY)));
+    match write_turns(alloc, reach, labels, at, label, off, bytes) {
+        Ok(reply) => Ok(reply),
+        Err(Stopped { folios, stuck }) => Err((folios, release(reach, stuck))),
     }
-    let told = write_file(alloc, reach, at, number, off, bytes)?;
-    match end_command(reach, at, reply_of(&told)) {
-        Ok(()) => Ok(told),
-        Err(halt) => Err(empty_handed(alloc, halt)),
+}
+
+/// The turns of a `write`.
+fn write_turns<R: Reach>(
+    alloc: Global,
+    reach: &mut R,
+    labels: &Labels,
+    at: &mut At,
+    label: Name,
+    off: u32,
+    bytes: &Items<u8>,
+) -> Result<Reply, Stopped>
+    requires ready { IsReady at.old (R.shown reach.old) }
+    requires free { (R.shown reach.old).hands ≡ no_hands }
+    requires some { 0 < length bytes.now }
+    requires within { off + length bytes.now ≤ PAGE_BYTES }
+    ensures comes { IfOk result (λ reply. Comes labels.now.bound labels.now.bound (Command.Write label off bytes.now) reply at.old at.new (R.shown reach.old) (R.shown reach.new)) }
+    ensures stopped { IfErr result (λ s. SticksAfter s.stuck at.old at.new (R.shown reach.old) (R.shown reach.new)) }
+    ensures given_up { IfErr result (λ s. AreOf (R.shown reach.old).anchor.home s.folios.items) }
+{
+    let Some(file) = labels.file(label) else {
+        return match end_command(reach, at, Reply::BadFd) {
+            Ok(()) => Ok(Reply::BadFd),
+            Err(stuck) => Err(empty_handed(alloc, stuck)),
+        };
+    };
+    let wrote = write_file(alloc, reach, at, file, off, bytes)?;
+    match end_command(reach, at, reply_of(&wrote)) {
+        Ok(()) => Ok(reply_of(&wrote)),
+        Err(stuck) => Err(empty_handed(alloc, stuck)),
     }
 }

@@ -1,52 +1,93 @@
-//! The turns on the pool that stand by themselves: runs are pinned, let go and given back.
+//! The turns on the pool.
 
-ghost use Rattle.std.specs.Prelude.{◌≡◌, ◌∷◌, [], OnOk, OnErr, None, length, vec_len, ◌<◌, ◌^◌};
-ghost use Rattle.phys_frames.specs.Memory.{AreOf};
-ghost use Rattle.phys_frames.specs.Memory.{first_frames};
-ghost use Rattle.ho_events.specs.Sequences.{pool};
-ghost use Rattle.machine_core.specs.Machine.{Agent};
-ghost use Rattle.luo_calls.specs.Turns.{IsReady, SameAgent, Did};
+ghost use Rattle.std.specs.Prelude.{◌≡◌, ◌+◌, ◌≤◌, ◌<◌, ◌^◌, ◌∷◌, [], IfOk, OnOk, OnErr, IfErr, None, Some, length, map, MatchOption, vec_len, vec_capacity};
+ghost use Rattle.ho_base.specs.Objects.{pool_no};
+ghost use Rattle.ho_world.specs.Logs.{deed_at};
+ghost use Rattle.phys_frames.specs.Memory.{AreOf, first_frames, zeroed};
+ghost use Rattle.machine_core.specs.Agents.{Agent};
+ghost use Rattle.machine_core.specs.Turns.{IsReady, Goes};
+ghost use Rattle.luo_calls.specs.Stuck.{Sticks};
+ghost use Rattle.luo_calls.specs.Takes.{TookRuns};
 
-use crate::halt::{Halt, may_turn, slip_for};
+use crate::stuck::Stuck;
+use crate::turns::open::open_pool;
+use ho_base::Items;
 use ho_base::numbers::{ObjectNo, Order, Pfn};
-use ho_events::chronicle::Recorded;
 use ho_events::event::Event;
 use ho_events::reply::Reply;
 use ho_events::slip::{At, Listed, Turned};
-use machine_core::{Object, Reach, begin_pool};
+use machine_core::{Halt, Object, Reach};
 use phys_frames::folio::Folio;
+use pool_core::Pool;
 use std::alloc::Global;
+use std::snapshot::Snapshot;
+
+/// The pool, still in hand, that can't make the event that is due.
+fn broken_pool(pool: Pool) -> Stuck
+    ensures halt { result.halt ≡ Halt.Broken (record { 0 = pool_no }) }
+    ensures held { result.held ≡ Some (record { 0 = pool_no }, Object.Pool pool) }
+{
+    Stuck {
+        halt: Halt::Broken(ObjectNo::POOL),
+        held: Some((ObjectNo::POOL, Object::Pool(pool))),
+    }
+}
+
+/// Takes as many runs of order 0 into the empty list; none, with nothing taken, where too few are free. What is known
+/// of the objects in hand may be read at this turn.
+pub fn take_runs<R: Reach>(
+    alloc: Global,
+    reach: &mut R,
+    at: &mut At,
+    order: Order,
+    count: u32,
+    out: &mut Vec<Folio>,
+) -> Result<Option<Snapshot<Items<Pfn>>>, Stuck>
+    requires ready { IsReady at.old (R.shown reach.old) }
+    requires free { (R.shown reach.old).hands pool_no ≡ None }
+    requires single { order.0 ≡ 0 }
+    requires some { 1 ≤ count }
+    requires empty { out.old.items ≡ [] }
+    requires spare { vec_len out.old + count ≤ vec_capacity out.old }
+    ensures got { IfOk result (λ got. TookRuns order count at.old at.new (R.shown reach.old) (R.shown reach.new) got) }
+    ensures out { IfOk result (λ got. MatchOption got (out.new.items ≡ []) (λ runs. out.new.items ≡ map (zeroed (R.shown reach.old).anchor.home) runs.value)) }
+    ensures count { IfOk result (λ got. MatchOption got (vec_len out.new ≡ 0) (λ runs. length runs.value ≡ count)) }
+    ensures sticks { IfErr result (λ stuck. Sticks at.old stuck (R.shown reach.old) (R.shown reach.new)) }
+    ensures same_at { OnErr result (at.new ≡ at.old) }
+    ensures err_out { OnErr result (out.new.items ≡ []) }
+{
+    let (slip, mut pool) = open_pool(alloc, reach, *at, Listed::in_reply(count, 0))?;
+    let Turned { entry, value } = pool.take(slip, order, count, out);
+    at.last = entry.stamp;
+    let got = match &entry.reply {
+        Reply::Got(runs) => Some(Snapshot::of(runs)),
+        _ => None,
+    };
+    let _taken = value;
+    reach.end(ObjectNo::POOL, Object::Pool(pool), Some(entry));
+    Ok(got)
+}
 
 /// Pins the frames of runs that are owned at order 0.
-#[tactic(auto, using(ho_events::proofs::Deeds::deeds_push))]
 pub fn mark<R: Reach>(
     alloc: Global,
     reach: &mut R,
     at: &mut At,
     order: Order,
     runs: &[Pfn],
-) -> Result<(), Halt>
-    requires ready { IsReady (R.shown reach.old) at.old }
-    requires free { (R.shown reach.old).hands.pool ≡ None }
+) -> Result<(), Stuck>
+    requires ready { IsReady at.old (R.shown reach.old) }
+    requires free { (R.shown reach.old).hands pool_no ≡ None }
     requires single { order.0 ≡ 0 }
     requires few { length runs.now < 2 ^ 32 }
-    ensures ready { IsReady (R.shown reach.new) at.new }
-    ensures command { at.new.command ≡ at.old.command }
-    ensures same { SameAgent (R.shown reach.old) (R.shown reach.new) }
-    ensures hands { (R.shown reach.new).hands ≡ (R.shown reach.old).hands }
-    ensures ok { OnOk result (Did at.old.command (pool (Event.PoolMark order runs.now) Reply.Ok ∷ []) (R.shown reach.old) (R.shown reach.new)) }
-    ensures err { OnErr result (Did at.old.command [] (R.shown reach.old) (R.shown reach.new)) }
+    ensures goes { OnOk result (Goes (deed_at pool_no [] (Event.PoolMark order runs.now) Reply.Ok ∷ []) at.old at.new (R.shown reach.old) (R.shown reach.new)) }
+    ensures sticks { IfErr result (λ stuck. Sticks at.old stuck (R.shown reach.old) (R.shown reach.new)) }
+    ensures same_at { OnErr result (at.new ≡ at.old) }
 {
-    let slip = slip_for(alloc, reach, *at, Listed::in_event(runs.len() as u32, 0))?;
-    let mut pool = begin_pool(reach);
-    let room = pool.reserve(1);
-    if let Err(halt) = may_turn(pool.last_stamp(), room) {
-        reach.end(ObjectNo::POOL, Object::Pool(pool), None);
-        return Err(halt);
-    }
+    let listed = Listed::in_event(runs.len() as u32, 0);
+    let (slip, mut pool) = open_pool(alloc, reach, *at, listed)?;
     if !pool.can_mark(order, runs) {
-        reach.end(ObjectNo::POOL, Object::Pool(pool), None);
-        return Err(Halt::Broken(ObjectNo::POOL));
+        return Err(broken_pool(pool));
     }
     let Turned { entry, value: _ } = pool.mark(slip, order, runs);
     at.last = entry.stamp;
@@ -54,36 +95,26 @@ pub fn mark<R: Reach>(
     Ok(())
 }
 
-/// Lets the pinned frames of runs go that are owned at order 0.
-#[tactic(auto, using(ho_events::proofs::Deeds::deeds_push))]
+/// Ends the pins of the frames of runs that are owned at order 0.
 pub fn unmark<R: Reach>(
     alloc: Global,
     reach: &mut R,
     at: &mut At,
     order: Order,
     runs: &[Pfn],
-) -> Result<(), Halt>
-    requires ready { IsReady (R.shown reach.old) at.old }
-    requires free { (R.shown reach.old).hands.pool ≡ None }
+) -> Result<(), Stuck>
+    requires ready { IsReady at.old (R.shown reach.old) }
+    requires free { (R.shown reach.old).hands pool_no ≡ None }
     requires single { order.0 ≡ 0 }
     requires few { length runs.now < 2 ^ 32 }
-    ensures ready { IsReady (R.shown reach.new) at.new }
-    ensures command { at.new.command ≡ at.old.command }
-    ensures same { SameAgent (R.shown reach.old) (R.shown reach.new) }
-    ensures hands { (R.shown reach.new).hands ≡ (R.shown reach.old).hands }
-    ensures ok { OnOk result (Did at.old.command (pool (Event.PoolUnmark order runs.now) Reply.Ok ∷ []) (R.shown reach.old) (R.shown reach.new)) }
-    ensures err { OnErr result (Did at.old.command [] (R.shown reach.old) (R.shown reach.new)) }
+    ensures goes { OnOk result (Goes (deed_at pool_no [] (Event.PoolUnmark order runs.now) Reply.Ok ∷ []) at.old at.new (R.shown reach.old) (R.shown reach.new)) }
+    ensures sticks { IfErr result (λ stuck. Sticks at.old stuck (R.shown reach.old) (R.shown reach.new)) }
+    ensures same_at { OnErr result (at.new ≡ at.old) }
 {
-    let slip = slip_for(alloc, reach, *at, Listed::in_event(runs.len() as u32, 0))?;
-    let mut pool = begin_pool(reach);
-    let room = pool.reserve(1);
-    if let Err(halt) = may_turn(pool.last_stamp(), room) {
-        reach.end(ObjectNo::POOL, Object::Pool(pool), None);
-        return Err(halt);
-    }
+    let listed = Listed::in_event(runs.len() as u32, 0);
+    let (slip, mut pool) = open_pool(alloc, reach, *at, listed)?;
     if !pool.can_unmark(order, runs) {
-        reach.end(ObjectNo::POOL, Object::Pool(pool), None);
-        return Err(Halt::Broken(ObjectNo::POOL));
+        return Err(broken_pool(pool));
     }
     let Turned { entry, value: _ } = pool.unmark(slip, order, runs);
     at.last = entry.stamp;
@@ -92,38 +123,28 @@ pub fn unmark<R: Reach>(
 }
 
 /// Gives folios of order 0 back. The list is empty afterwards; where the turn isn't taken, it is as it was.
-#[tactic(auto, using(ho_events::proofs::Deeds::deeds_push, crate::proofs::CommandSteps::all_of))]
 pub fn give<R: Reach>(
     alloc: Global,
     reach: &mut R,
     at: &mut At,
     order: Order,
     folios: &mut Vec<Folio>,
-) -> Result<(), Halt>
-    requires ready { IsReady (R.shown reach.old) at.old }
-    requires free { (R.shown reach.old).hands.pool ≡ None }
+) -> Result<(), Stuck>
+    requires ready { IsReady at.old (R.shown reach.old) }
+    requires free { (R.shown reach.old).hands pool_no ≡ None }
     requires single { order.0 ≡ 0 }
     requires few { vec_len folios.old < 2 ^ 32 }
-    requires of_home { AreOf (R.shown reach.old).home folios.old.items }
-    ensures ready { IsReady (R.shown reach.new) at.new }
-    ensures command { at.new.command ≡ at.old.command }
-    ensures same { SameAgent (R.shown reach.old) (R.shown reach.new) }
-    ensures hands { (R.shown reach.new).hands ≡ (R.shown reach.old).hands }
-    ensures ok { OnOk result (Did at.old.command (pool (Event.PoolGive order (first_frames folios.old.items)) Reply.Ok ∷ []) (R.shown reach.old) (R.shown reach.new)) }
+    requires of_home { AreOf (R.shown reach.old).anchor.home folios.old.items }
+    ensures goes { OnOk result (Goes (deed_at pool_no [] (Event.PoolGive order (first_frames folios.old.items)) Reply.Ok ∷ []) at.old at.new (R.shown reach.old) (R.shown reach.new)) }
     ensures given { OnOk result (folios.new.items ≡ []) }
-    ensures err { OnErr result (Did at.old.command [] (R.shown reach.old) (R.shown reach.new)) }
+    ensures sticks { IfErr result (λ stuck. Sticks at.old stuck (R.shown reach.old) (R.shown reach.new)) }
+    ensures same_at { OnErr result (at.new ≡ at.old) }
     ensures kept { OnErr result (folios.new.items ≡ folios.old.items) }
 {
-    let slip = slip_for(alloc, reach, *at, Listed::in_event(folios.len() as u32, 0))?;
-    let mut pool = begin_pool(reach);
-    let room = pool.reserve(1);
-    if let Err(halt) = may_turn(pool.last_stamp(), room) {
-        reach.end(ObjectNo::POOL, Object::Pool(pool), None);
-        return Err(halt);
-    }
+    let listed = Listed::in_event(folios.len() as u32, 0);
+    let (slip, mut pool) = open_pool(alloc, reach, *at, listed)?;
     if !pool.can_give(order, folios.as_slice()) {
-        reach.end(ObjectNo::POOL, Object::Pool(pool), None);
-        return Err(Halt::Broken(ObjectNo::POOL));
+        return Err(broken_pool(pool));
     }
     let Turned { entry, value: _ } = pool.give(slip, order, folios);
     at.last = entry.stamp;

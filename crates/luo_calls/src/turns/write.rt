@@ -1,368 +1,356 @@
 //! The turns of the command `write`: the take of runs for the holes, and the write of the file, which is in hand
 //! meanwhile.
 
-ghost use Rattle.std.specs.Prelude.{◌≡◌, ◌+◌, ◌<◌, ◌≤◌, ◌^◌, ◌∷◌, [], true, false, IfOk, IfErr, OnErr, None, Some, MatchOption, length, map, ◌&&◌, ◌||◌};
+ghost use Rattle.std.specs.Prelude.{◌≡◌, ◌≢◌, ◌+◌, ◌<◌, ◌≤◌, ◌^◌, ◌∷◌, [], ◌||◌, ◌==◌, IfOk, IfErr, OnOk, OnErr, IsTrue, None, List, length, map, option_map};
 ghost use Rattle.std.specs.Vec.{vec_len};
-ghost use Rattle.ho_base.specs.Objects.{file_no};
+ghost use Rattle.ho_base.specs.Objects.{pool_no, file_no};
 ghost use Rattle.ho_base.specs.declared.limits.TheConstants.{PAGE_BYTES};
-ghost use Rattle.ho_events.specs.History.{last_stamp};
-ghost use Rattle.ho_events.specs.Sequences.{OfFile, file, pool};
-ghost use Rattle.machine_core.specs.Machine.{Agent, no_hands};
-ghost use Rattle.phys_frames.specs.Memory.{AreFills, AreOf, first_frames};
-ghost use Rattle.memfd_file.specs.Files.{fills_used, fills_left};
-ghost use Rattle.luo_calls.specs.Turns.{IsReady, SameAgent, Did};
-ghost use Rattle.phys_frames.specs.Memory.{zeroed};
-ghost use Rattle.luo_calls.specs.Writes.{IsBegun, IsWriteTold, is_frozen_by, reply_by, write_turns};
+ghost use Rattle.ho_events.specs.File.{grows_frozen, touched_holes};
+ghost use Rattle.ho_base.specs.declared.numbers.Kind.TheVariants.{Memfd};
+ghost use Rattle.ho_world.specs.Acts.{Claim, IsFile};
+ghost use Rattle.ho_world.specs.Logs.{deed_at, AreClaimed};
+ghost use Rattle.phys_frames.specs.Memory.{AreFills, AreOf, first_frames, zeroed};
+ghost use Rattle.memfd_file.specs.FileValues.{FileIs};
+ghost use Rattle.memfd_file.specs.Files.{FileHas, facts_of, fills_left, fills_used, write_answer};
+ghost use Rattle.machine_core.specs.Agents.{Agent, begun, no_hands};
+ghost use Rattle.machine_core.specs.Turns.{IsReady, Goes};
+ghost use Rattle.luo_calls.specs.Memfds.{is_frozen_by, IsMemfd, IsPlainReply, TouchesHoles};
+ghost use Rattle.luo_calls.specs.Opened.{Holds, Opens, without};
+ghost use Rattle.luo_calls.specs.Doing.{SticksAfter};
+ghost use Rattle.luo_calls.specs.Stuck.{Sticks};
+ghost use Rattle.luo_calls.specs.Wrote.{IsTaking, IsWrote, write_deeds};
 
-use crate::halt::{Halt, Stopped, empty_handed, may_turn, slip_for};
-use crate::told::WriteTold;
-use crate::turns::take::take_runs;
+use crate::stuck::{Stopped, Stuck};
+use crate::turns::file::{broken_file, memfd_order};
+use crate::turns::open::open_file;
+use crate::turns::pool::take_runs;
+use crate::turns::resume::{resume, under};
 use ho_base::Items;
 use ho_base::limits::FILES;
-use ho_base::numbers::{FileNo, Kind, ObjectNo, Pfn};
-use ho_events::chronicle::Recorded;
+use ho_base::numbers::{FileNo, Kind, ObjectNo, Order, Pfn};
 use ho_events::event::Event;
 use ho_events::reply::Reply;
 use ho_events::slip::{At, Listed, Slip, Turned};
-use machine_core::{Object, Reach, begin_file};
+use machine_core::{Halt, Object, Reach};
 use memfd_file::{Facts, FileObject};
 use phys_frames::folio::Folio;
 use std::alloc::Global;
 use std::snapshot::Snapshot;
 
-/// A file in hand that is about to be written: the memory for the turn, what is told of the file, and how many
-/// holes the bytes touch.
-pub struct Begun {
-    pub object: FileObject,
-    pub slip: Slip,
-    pub facts: Facts,
-    pub holes: u32,
-}
-
-/// Whether a write up to this end would change a size that can't change.
-fn is_frozen(facts: &Facts, end: u32) -> bool
-    ensures { result ≡ is_frozen_by facts.now end }
-{
-    let device = match facts.kind {
-        Kind::Memfd => false,
-        _ => true,
-    };
-    facts.size < end && (facts.pin || facts.hold || device)
-}
-
-/// Takes a file that a label has, with the memory for its turn.
-fn begin_write<R: Reach>(
+/// Takes a file that a label has, which is an open memfd of single frames, and tells its facts and its order.
+pub fn open_write<R: Reach>(
     alloc: Global,
     reach: &mut R,
     at: At,
-    number: FileNo,
-    off: u32,
-    len: u32,
-) -> Result<Begun, Halt>
-    requires ready { IsReady (R.shown reach.old) at }
-    requires file { number.0 < FILES }
-    requires free { (R.shown reach.old).hands ≡ no_hands }
-    requires within { off + len ≤ PAGE_BYTES }
-    ensures ready { IsReady (R.shown reach.new) at }
-    ensures same { SameAgent (R.shown reach.old) (R.shown reach.new) }
-    ensures log { (R.shown reach.new).log ≡ (R.shown reach.old).log }
-    ensures begun { IfOk result (λ b. IsBegun (R.shown reach.new) at b number off len) }
-    ensures single { IfOk result (λ b. b.facts.order.0 ≡ 0) }
-    ensures err { OnErr result ((R.shown reach.new).hands ≡ no_hands) }
+    file: FileNo,
+) -> Result<(FileObject, Order), Stuck>
+    requires file { file.0 < FILES }
+    requires free { (R.shown reach.old).hands (file_no file.0) ≡ None }
+    ensures opens { IfOk result (λ t. Opens at (file_no file.0) (R.shown reach.old) (R.shown reach.new) (Object.File t.0)) }
+    ensures memfd { IfOk result (λ t. FileIs t.0 (λ s. IsMemfd (option_map facts_of s) t.1)) }
+    ensures sticks { IfErr result (λ stuck. Sticks at stuck (R.shown reach.old) (R.shown reach.new)) }
 {
-    let mut object = begin_file(reach, number);
-    let place = ObjectNo::of_file(number);
-    let room = object.reserve(1);
-    if let Err(halt) = may_turn(object.last_stamp(), room) {
-        reach.end(place, Object::File(object), None);
-        return Err(halt);
+    let (_, object) = open_file(alloc, reach, at, file, Listed::nothing())?;
+    let number = ObjectNo::of_file(file);
+    if !object.is_open() {
+        return Err(broken_file(number, object));
     }
-    let facts = match object.facts() {
-        Some(facts) => facts,
-        None => {
-            reach.end(place, Object::File(object), None);
-            return Err(Halt::Broken(place));
-        }
-    };
-    if !facts.opened || facts.order.0 != 0 {
-        reach.end(place, Object::File(object), None);
-        return Err(Halt::Broken(place));
+    match memfd_order(object.facts()) {
+        Some(order) => Ok((object, order)),
+        None => Err(broken_file(number, object)),
     }
-    let holes = object.holes(off, len);
-    match slip_for(alloc, reach, at, Listed::in_event(holes, len)) {
-        Ok(slip) => Ok(Begun {
-            object,
-            slip,
-            facts,
-            holes,
-        }),
-        Err(halt) => {
-            reach.end(place, Object::File(object), None);
-            Err(halt)
+}
+
+/// Whether a write up to this end would change the size of a file that can't change; none is told where no file is there.
+fn is_frozen(facts: Option<Facts>, end: u32) -> bool
+    ensures { result ≡ is_frozen_by facts end }
+{
+    match facts {
+        None => false,
+        Some(facts) => {
+            let device = match facts.kind {
+                Kind::Memfd => false,
+                _ => true,
+            };
+            facts.size < end && (facts.pin || facts.hold || device)
         }
     }
 }
 
-/// Gives the file in hand back as it was.
-fn leave<R: Reach>(reach: &mut R, begun: Begun, number: FileNo)
-    requires file { number.0 < FILES }
-    requires number { begun.object.number ≡ file_no number.0 }
-    requires home { begun.object.home ≡ (R.shown reach.old).home }
-    requires start { begun.object.start ≡ None }
-    requires hands { (R.shown reach.old).hands ≡ record no_hands { file = Some (record { number = file_no number.0; history = begun.object.history }) } }
-    ensures same { SameAgent (R.shown reach.old) (R.shown reach.new) }
-    ensures last { (R.shown reach.new).last ≡ (R.shown reach.old).last }
-    ensures hands { (R.shown reach.new).hands ≡ no_hands }
-{
-    let Begun {
-        object,
-        slip: _,
-        facts: _,
-        holes: _,
-    } = begun;
-    let _ = object.entries();
-    reach.end(ObjectNo::of_file(number), Object::File(object), None);
-}
-
-/// Writes the file in hand, and gives it back.
-#[tactic(auto, using(ho_events::proofs::Deeds::deeds_push))]
-fn finish_write<R: Reach>(
+/// Ends the turn of a file in hand with a write. What is known of the objects in hand may be read at this turn.
+pub fn end_write<R: Reach>(
     reach: &mut R,
     at: &mut At,
-    begun: Begun,
-    number: FileNo,
+    slip: Slip,
+    file: FileNo,
+    mut object: FileObject,
     off: u32,
     bytes: &Items<u8>,
     fills: &mut Vec<Folio>,
 ) -> Reply
-    requires ready { IsReady (R.shown reach.old) at.old }
-    requires file { number.0 < FILES }
-    requires begun { IsBegun (R.shown reach.old) at.old begun number off (length bytes.now) }
+    requires ready { IsReady at.old (R.shown reach.old) }
+    requires file { file.0 < FILES }
+    requires holds { Holds (file_no file.0) (R.shown reach.old) (Object.File object) }
+    requires object_room { 1 ≤ object.room }
+    requires early { at.old.last < 2 ^ 63 }
+    requires slip { slip.at ≡ at.old }
+    requires log_room { 1 ≤ (R.shown reach.old).room }
+    requires present { FileIs object (λ s. s ≢ None) }
     requires some { 0 < length bytes.now }
     requires within { off + length bytes.now ≤ PAGE_BYTES }
     requires fills { AreFills fills.old.items }
-    requires fills_home { AreOf (R.shown reach.old).home fills.old.items }
-    requires fills_count { 0 < vec_len fills.old → vec_len fills.old ≡ begun.holes }
-    ensures ready { IsReady (R.shown reach.new) at.new }
-    ensures command { at.new.command ≡ at.old.command }
-    ensures same { SameAgent (R.shown reach.old) (R.shown reach.new) }
-    ensures hands { (R.shown reach.new).hands ≡ no_hands }
-    ensures reply { result ≡ reply_by begun.facts begun.holes (off + length bytes.now) (vec_len fills.old) }
+    requires fills_home { AreOf (R.shown reach.old).anchor.home fills.old.items }
+    requires fills_count { 0 < vec_len fills.old → FileHas object (λ f. vec_len fills.old ≡ length (touched_holes f off (length bytes.now))) }
+    requires slip_numbers { vec_len fills.old ≤ slip.room.event_numbers }
+    requires slip_bytes { length bytes.now ≤ slip.room.event_bytes }
+    ensures exact { FileHas object (λ f. result ≡ write_answer f off (length bytes.now) (vec_len fills.old)) }
     ensures fills { fills.new.items ≡ fills_left result fills.old.items }
-    ensures did { Did at.old.command (file number (Event.FileWrite off bytes.now (first_frames (fills_used result fills.old.items))) result (OfFile begun.facts.kind begun.facts.order.0) ∷ []) (R.shown reach.old) (R.shown reach.new) }
+    ensures goes { (claims : List Claim) → AreClaimed (begun (R.shown reach.old)) (R.shown reach.old).hands claims → Goes (deed_at (file_no file.0) claims (Event.FileWrite off bytes.now (first_frames (fills_used result fills.old.items))) result ∷ []) at.old at.new (without (file_no file.0) (R.shown reach.old)) (R.shown reach.new) }
 {
-    let Begun {
-        mut object,
-        slip,
-        facts: _,
-        holes: _,
-    } = begun;
-    let place = ObjectNo::of_file(number);
+    let number = ObjectNo::of_file(file);
     let Turned { entry, value } = object.write(slip, off, bytes.as_slice(), fills);
     at.last = entry.stamp;
-    reach.end(place, Object::File(object), Some(entry));
+    reach.end(number, Object::File(object), Some(entry));
     value
 }
 
+/// How the turns of a write came out.
+#[derive(Drop)]
+pub enum Wrote {
+    /// No run was taken: the file refused, or no hole was touched.
+    Plain(Reply),
+    /// Too few runs are free for so many holes.
+    Starved(Order, u32),
+    /// The holes were filled with these runs.
+    Filled(Order, Snapshot<Items<Pfn>>),
+}
+
 /// Writes the file in hand where no run is taken first: its size can't change as it must, or no hole is touched.
-#[tactic(auto, using(crate::proofs::WriteSteps::says_frozen, crate::proofs::WriteSteps::says_over))]
 fn write_plain<R: Reach>(
     alloc: Global,
     reach: &mut R,
     at: &mut At,
-    begun: Begun,
-    number: FileNo,
+    file: FileNo,
+    object: FileObject,
     off: u32,
     bytes: &Items<u8>,
-    frozen: bool,
-) -> WriteTold
-    requires ready { IsReady (R.shown reach.old) at.old }
-    requires file { number.0 < FILES }
-    requires begun { IsBegun (R.shown reach.old) at.old begun number off (length bytes.now) }
+) -> Result<Reply, Stuck>
+    requires ready { IsReady at.old (R.shown reach.old) }
+    requires file { file.0 < FILES }
+    requires holds { Holds (file_no file.0) (R.shown reach.old) (Object.File object) }
+    requires object_room { 1 ≤ object.room }
+    requires present { FileIs object (λ s. s ≢ None) }
     requires some { 0 < length bytes.now }
     requires within { off + length bytes.now ≤ PAGE_BYTES }
-    requires frozen { frozen ≡ is_frozen_by begun.facts (off + length bytes.now) }
-    requires no_holes { frozen ≡ false → begun.holes ≡ 0 }
-    ensures ready { IsReady (R.shown reach.new) at.new }
-    ensures command { at.new.command ≡ at.old.command }
-    ensures same { SameAgent (R.shown reach.old) (R.shown reach.new) }
-    ensures hands { (R.shown reach.new).hands ≡ no_hands }
-    ensures told { IsWriteTold result }
-    ensures did { Did at.old.command (write_turns number off bytes.now result) (R.shown reach.old) (R.shown reach.new) }
+    requires plain { FileHas object (λ f. IsTrue (grows_frozen f (off + length bytes.now) || length (touched_holes f off (length bytes.now)) == 0)) }
+    ensures reply { IfOk result IsPlainReply }
+    ensures goes { IfOk result (λ reply. Goes (deed_at (file_no file.0) [] (Event.FileWrite off bytes.now []) reply ∷ []) at.old at.new (without (file_no file.0) (R.shown reach.old)) (R.shown reach.new)) }
+    ensures sticks { IfErr result (λ stuck. Sticks at.old stuck (without (file_no file.0) (R.shown reach.old)) (R.shown reach.new)) }
+    ensures same_at { OnErr result (at.new ≡ at.old) }
 {
-    let kind = begun.facts.kind;
-    let order = begun.facts.order;
+    let slip = match resume(alloc, reach, *at, Listed::in_event(0, bytes.len() as u32)) {
+        Ok(slip) => slip,
+        Err(stuck) => {
+            let number = ObjectNo::of_file(file);
+            return Err(under(reach, number, Object::File(object), stuck));
+        }
+    };
     let mut fills = Vec::new(alloc);
-    let _reply = finish_write(reach, at, begun, number, off, bytes, &mut fills);
+    let reply = end_write(reach, at, slip, file, object, off, bytes, &mut fills);
     fills.destroy_empty();
-    if frozen {
-        WriteTold::Frozen(kind, order)
-    } else {
-        WriteTold::Written(kind, order, Snapshot::of(&Items::new(alloc)))
-    }
+    Ok(reply)
 }
 
 /// Writes the file in hand, for whose holes too few runs are free.
-#[tactic(auto, using(crate::proofs::WriteSteps::says_starved))]
 fn write_starved<R: Reach>(
+    alloc: Global,
     reach: &mut R,
     at: &mut At,
-    begun: Begun,
-    number: FileNo,
+    file: FileNo,
+    object: FileObject,
+    order: Order,
     off: u32,
     bytes: &Items<u8>,
-    mut fills: Vec<Folio>,
-)
-    requires ready { IsReady (R.shown reach.old) at.old }
-    requires file { number.0 < FILES }
-    requires begun { IsBegun (R.shown reach.old) at.old begun number off (length bytes.now) }
+    holes: u32,
+) -> Result<(), Stuck>
+    requires ready { IsReady at.old (R.shown reach.old) }
+    requires file { file.0 < FILES }
+    requires holds { Holds (file_no file.0) (R.shown reach.old) (Object.File object) }
+    requires object_room { 1 ≤ object.room }
+    requires memfd { FileIs object (λ s. IsMemfd (option_map facts_of s) order) }
     requires some { 0 < length bytes.now }
     requires within { off + length bytes.now ≤ PAGE_BYTES }
-    requires unfrozen { is_frozen_by begun.facts (off + length bytes.now) ≡ false }
-    requires holes { 0 < begun.holes }
-    requires fills { fills.items ≡ [] }
-    ensures ready { IsReady (R.shown reach.new) at.new }
-    ensures command { at.new.command ≡ at.old.command }
-    ensures same { SameAgent (R.shown reach.old) (R.shown reach.new) }
-    ensures hands { (R.shown reach.new).hands ≡ no_hands }
-    ensures did { Did at.old.command (file number (Event.FileWrite off bytes.now []) (Reply.NoFramesOf begun.holes) (OfFile begun.facts.kind begun.facts.order.0) ∷ []) (R.shown reach.old) (R.shown reach.new) }
+    requires touched { FileHas object (λ f. TouchesHoles f off (length bytes.now) holes) }
+    ensures goes { OnOk result (Goes (deed_at (file_no file.0) (IsFile file Memfd order ∷ []) (Event.FileWrite off bytes.now []) (Reply.NoFramesOf holes) ∷ []) at.old at.new (without (file_no file.0) (R.shown reach.old)) (R.shown reach.new)) }
+    ensures sticks { IfErr result (λ stuck. Sticks at.old stuck (without (file_no file.0) (R.shown reach.old)) (R.shown reach.new)) }
+    ensures same_at { OnErr result (at.new ≡ at.old) }
 {
-    let _reply = finish_write(reach, at, begun, number, off, bytes, &mut fills);
+    let _order = order;
+    let slip = match resume(alloc, reach, *at, Listed::in_event(0, bytes.len() as u32)) {
+        Ok(slip) => slip,
+        Err(stuck) => {
+            let number = ObjectNo::of_file(file);
+            return Err(under(reach, number, Object::File(object), stuck));
+        }
+    };
+    let mut fills = Vec::new(alloc);
+    let _reply = end_write(reach, at, slip, file, object, off, bytes, &mut fills);
     fills.destroy_empty();
+    Ok(())
 }
 
-/// Writes the file in hand, with these runs of zeros for its holes.
-#[tactic(auto, using(crate::proofs::WriteSteps::says_filled, crate::proofs::WriteSteps::zeroed_fills, crate::proofs::WriteSteps::zeroed_home, crate::proofs::WriteSteps::zeroed_firsts))]
+/// Writes the file in hand, with these runs of zeros for its holes. Where the turn isn't taken, they are
+/// given up.
 fn write_filled<R: Reach>(
+    alloc: Global,
     reach: &mut R,
     at: &mut At,
-    begun: Begun,
-    number: FileNo,
+    file: FileNo,
+    object: FileObject,
+    order: Order,
     off: u32,
     bytes: &Items<u8>,
-    runs: &Snapshot<Items<Pfn>>,
+    runs: Snapshot<Items<Pfn>>,
     mut fills: Vec<Folio>,
-)
-    requires ready { IsReady (R.shown reach.old) at.old }
-    requires file { number.0 < FILES }
-    requires begun { IsBegun (R.shown reach.old) at.old begun number off (length bytes.now) }
+) -> Result<Wrote, Stopped>
+    requires ready { IsReady at.old (R.shown reach.old) }
+    requires file { file.0 < FILES }
+    requires holds { Holds (file_no file.0) (R.shown reach.old) (Object.File object) }
+    requires object_room { 1 ≤ object.room }
+    requires memfd { FileIs object (λ s. IsMemfd (option_map facts_of s) order) }
     requires some { 0 < length bytes.now }
     requires within { off + length bytes.now ≤ PAGE_BYTES }
-    requires unfrozen { is_frozen_by begun.facts (off + length bytes.now) ≡ false }
-    requires holes { 0 < begun.holes }
-    requires fills { fills.items ≡ map (zeroed (R.shown reach.old).home) runs.now.value }
-    requires count { length runs.now.value ≡ begun.holes }
-    ensures ready { IsReady (R.shown reach.new) at.new }
-    ensures command { at.new.command ≡ at.old.command }
-    ensures same { SameAgent (R.shown reach.old) (R.shown reach.new) }
-    ensures hands { (R.shown reach.new).hands ≡ no_hands }
-    ensures did { Did at.old.command (file number (Event.FileWrite off bytes.now runs.now.value) Reply.Ok (OfFile begun.facts.kind begun.facts.order.0) ∷ []) (R.shown reach.old) (R.shown reach.new) }
+    requires touched { FileHas object (λ f. TouchesHoles f off (length bytes.now) (vec_len fills)) }
+    requires fills { fills.items ≡ map (zeroed (R.shown reach.old).anchor.home) runs.value }
+    requires few { vec_len fills < 2 ^ 32 }
+    ensures goes { OnOk result (Goes (deed_at (file_no file.0) (IsFile file Memfd order ∷ []) (Event.FileWrite off bytes.now runs.value) Reply.Ok ∷ []) at.old at.new (without (file_no file.0) (R.shown reach.old)) (R.shown reach.new)) }
+    ensures wrote { IfOk result (λ w. w ≡ Wrote.Filled order runs) }
+    ensures sticks { IfErr result (λ s. Sticks at.old s.stuck (without (file_no file.0) (R.shown reach.old)) (R.shown reach.new)) }
+    ensures same_at { OnErr result (at.new ≡ at.old) }
+    ensures given_up { IfErr result (λ s. AreOf (R.shown reach.old).anchor.home s.folios.items) }
 {
-    let _ = runs;
-    let _reply = finish_write(reach, at, begun, number, off, bytes, &mut fills);
+    let listed = Listed::in_event(fills.len() as u32, bytes.len() as u32);
+    let slip = match resume(alloc, reach, *at, listed) {
+        Ok(slip) => slip,
+        Err(stuck) => {
+            let number = ObjectNo::of_file(file);
+            let stuck = under(reach, number, Object::File(object), stuck);
+            return Err(Stopped {
+                folios: fills,
+                stuck,
+            });
+        }
+    };
+    let _reply = end_write(reach, at, slip, file, object, off, bytes, &mut fills);
     fills.destroy_empty();
+    Ok(Wrote::Filled(order, runs))
 }
 
 /// Takes a run for each hole that the bytes touch, and writes the file in hand.
-#[tactic(auto, using(crate::proofs::WriteSteps::starved_turns, crate::proofs::WriteSteps::filled_turns, crate::proofs::WriteSteps::zeroed_home))]
 fn write_taking<R: Reach>(
     alloc: Global,
     reach: &mut R,
     at: &mut At,
-    mut begun: Begun,
-    number: FileNo,
+    file: FileNo,
+    object: FileObject,
+    order: Order,
     off: u32,
     bytes: &Items<u8>,
-) -> Result<WriteTold, Stopped>
-    requires ready { IsReady (R.shown reach.old) at.old }
-    requires file { number.0 < FILES }
-    requires begun { IsBegun (R.shown reach.old) at.old begun number off (length bytes.now) }
+    holes: u32,
+) -> Result<Wrote, Stopped>
+    requires ready { IsReady at.old (R.shown reach.old) }
+    requires file { file.0 < FILES }
+    requires holds { Holds (file_no file.0) (R.shown reach.old) (Object.File object) }
+    requires free { (R.shown reach.old).hands pool_no ≡ None }
+    requires object_room { 1 ≤ object.room }
+    requires memfd { FileIs object (λ s. IsMemfd (option_map facts_of s) order) }
+    requires single { order.0 ≡ 0 }
     requires some { 0 < length bytes.now }
     requires within { off + length bytes.now ≤ PAGE_BYTES }
-    requires unfrozen { is_frozen_by begun.facts (off + length bytes.now) ≡ false }
-    requires holes { 0 < begun.holes }
-    requires single { begun.facts.order.0 ≡ 0 }
-    ensures ready { IsReady (R.shown reach.new) at.new }
-    ensures command { at.new.command ≡ at.old.command }
-    ensures same { SameAgent (R.shown reach.old) (R.shown reach.new) }
-    ensures hands { (R.shown reach.new).hands ≡ no_hands }
-    ensures told { IfOk result IsWriteTold }
-    ensures did { IfOk result (λ told. Did at.old.command (write_turns number off bytes.now told) (R.shown reach.old) (R.shown reach.new)) }
-    ensures given_up { IfErr result (λ s. AreOf (R.shown reach.old).home s.folios.items) }
+    requires touched { FileHas object (λ f. TouchesHoles f off (length bytes.now) holes) }
+    requires holes { 0 < holes }
+    ensures goes { IfOk result (λ w. Goes (write_deeds file off bytes.now w) at.old at.new (without (file_no file.0) (R.shown reach.old)) (R.shown reach.new)) }
+    ensures takes { IfOk result (λ w. IsTaking order holes w) }
+    ensures stopped { IfErr result (λ s. SticksAfter s.stuck at.old at.new (without (file_no file.0) (R.shown reach.old)) (R.shown reach.new)) }
+    ensures given_up { IfErr result (λ s. AreOf (R.shown reach.old).anchor.home s.folios.items) }
 {
-    let place = ObjectNo::of_file(number);
-    let kind = begun.facts.kind;
-    let order = begun.facts.order;
-    let holes = begun.holes;
-    let mut fills = match Vec::with_capacity(alloc, holes as usize) {
-        Ok(fills) => fills,
-        Err(_) => {
-            leave(reach, begun, number);
-            return Err(empty_handed(alloc, Halt::Memory));
-        }
+    let number = ObjectNo::of_file(file);
+    let Ok(mut fills) = Vec::with_capacity(alloc, holes as usize) else {
+        return Err(Stopped {
+            folios: Vec::new(alloc),
+            stuck: Stuck {
+                halt: Halt::Memory,
+                held: Some((number, Object::File(object))),
+            },
+        });
     };
     let got = match take_runs(alloc, reach, at, order, holes, &mut fills) {
         Ok(got) => got,
-        Err(halt) => {
-            leave(reach, begun, number);
+        Err(stuck) => {
+            let stuck = under(reach, number, Object::File(object), stuck);
             return Err(Stopped {
                 folios: fills,
-                halt,
+                stuck,
             });
         }
     };
-    let room = reach.room(1);
-    if let Err(halt) = may_turn(at.last, room) {
-        leave(reach, begun, number);
-        return Err(Stopped {
-            folios: fills,
-            halt,
-        });
-    }
-    begun.slip.at = *at;
     match got {
+        Some(runs) => write_filled(
+            alloc, reach, at, file, object, order, off, bytes, runs, fills,
+        ),
         None => {
-            write_starved(reach, at, begun, number, off, bytes, fills);
-            Ok(WriteTold::Starved(kind, order, holes))
-        }
-        Some(runs) => {
-            write_filled(reach, at, begun, number, off, bytes, &runs, fills);
-            Ok(WriteTold::Written(kind, order, runs))
+            fills.destroy_empty();
+            match write_starved(alloc, reach, at, file, object, order, off, bytes, holes) {
+                Ok(()) => Ok(Wrote::Starved(order, holes)),
+                Err(stuck) => Err(Stopped {
+                    folios: Vec::new(alloc),
+                    stuck,
+                }),
+            }
         }
     }
 }
 
-/// Writes bytes at an offset of a file that a label has.
+/// Writes bytes at an offset of a file that a label has. It takes runs for the holes that the bytes touch, all or none.
+/// It costs the bytes, and what a take of so many runs costs.
 pub fn write_file<R: Reach>(
     alloc: Global,
     reach: &mut R,
     at: &mut At,
-    number: FileNo,
+    file: FileNo,
     off: u32,
     bytes: &Items<u8>,
-) -> Result<WriteTold, Stopped>
-    requires ready { IsReady (R.shown reach.old) at.old }
-    requires file { number.0 < FILES }
+) -> Result<Wrote, Stopped>
+    requires ready { IsReady at.old (R.shown reach.old) }
+    requires file { file.0 < FILES }
     requires free { (R.shown reach.old).hands ≡ no_hands }
     requires some { 0 < length bytes.now }
     requires within { off + length bytes.now ≤ PAGE_BYTES }
-    ensures ready { IsReady (R.shown reach.new) at.new }
-    ensures command { at.new.command ≡ at.old.command }
-    ensures same { SameAgent (R.shown reach.old) (R.shown reach.new) }
-    ensures hands { (R.shown reach.new).hands ≡ no_hands }
-    ensures told { IfOk result IsWriteTold }
-    ensures did { IfOk result (λ told. Did at.old.command (write_turns number off bytes.now told) (R.shown reach.old) (R.shown reach.new)) }
-    ensures given_up { IfErr result (λ s. AreOf (R.shown reach.old).home s.folios.items) }
+    ensures goes { IfOk result (λ w. Goes (write_deeds file off bytes.now w) at.old at.new (R.shown reach.old) (R.shown reach.new)) }
+    ensures told { IfOk result (IsWrote off (length bytes.now)) }
+    ensures stopped { IfErr result (λ s. SticksAfter s.stuck at.old at.new (R.shown reach.old) (R.shown reach.new)) }
+    ensures given_up { IfErr result (λ s. AreOf (R.shown reach.old).anchor.home s.folios.items) }
 {
-    let len = bytes.len() as u32;
-    let begun = match begin_write(alloc, reach, *at, number, off, len) {
-        Ok(begun) => begun,
-        Err(halt) => return Err(empty_handed(alloc, halt)),
+    let (object, order) = match open_write(alloc, reach, *at, file) {
+        Ok(opened) => opened,
+        Err(stuck) => {
+            return Err(Stopped {
+                folios: Vec::new(alloc),
+                stuck,
+            });
+        }
     };
-    let frozen = is_frozen(&begun.facts, off + len);
-    if begun.holes > 0 && !frozen {
-        write_taking(alloc, reach, at, begun, number, off, bytes)
+    let len = bytes.len() as u32;
+    let holes = object.holes(off, len);
+    if holes == 0 || is_frozen(object.facts(), off + len) {
+        match write_plain(alloc, reach, at, file, object, off, bytes) {
+            Ok(reply) => Ok(Wrote::Plain(reply)),
+            Err(stuck) => Err(Stopped {
+                folios: Vec::new(alloc),
+                stuck,
+            }),
+        }
     } else {
-        Ok(write_plain(alloc, reach, at, begun, number, off, bytes, frozen))
+        write_taking(alloc, reach, at, file, object, order, off, bytes, holes)
     }
 }

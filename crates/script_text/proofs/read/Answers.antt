@@ -9,25 +9,30 @@ use Rattle.script_text.proofs.Shaped.{shaped_script}
 use Rattle.script_text.proofs.Single.{single_script}
 use Rattle.script_text.proofs.Small.{small_script}
 use Rattle.script_text.proofs.OneByOne.{is_taken, is_refused, is_ended, is_read}
+use Rattle.ho_events.specs.Script.Words.{is_script_byte}
+use Rattle.script_text.proofs.CleanLines.{lines_clean, left, right}
 use Rattle.script_text.proofs.read.Goals as goal
 
 pub loop-rest-init : goal.loop-rest-init
 unfolding outcome_of
-loop-rest-init c = (rw c.new-reader.ensures refl, omega arith)
+loop-rest-init c = (rw c.new-reader.ensures refl, omega arith, λ clean. lines_clean is_script_byte _ (sym c.has_script_bytes-clean.ensures ∙ clean))
+
+pub take_line-requires : goal.take_line-requires
+take_line-requires c = λ clean. left _ _ (rw c.next_line.ensures.cut at (c.loop-rest.invariant.2 clean))
 
 pub returns-in-Ok-Err-clause-bad : goal.returns-in-Ok-Err-clause-bad
 returns-in-Ok-Err-clause-bad c =
     let refused : after_line c.loop-rest.reader c.next_line.result.0.now ≡ Err c.in-Ok-Err.reason =
-    sym (rw c.in-Ok-Err.field-0-is at c.in-Ok-Err.ensures) in
+    rw c.in-Ok-Err.field-0-is at c.in-Ok-Err.ensures in
     let told : outcome_of c.args.fresh c.args.bytes.now ≡ Err (record { line = c.loop-rest.line; why = c.in-Ok-Err.reason }) =
     sym c.loop-rest.invariant.0 ∙ is_refused _ _ _ _ _ _ c.next_line.ensures.cut refused in
     rw told refl
 
 pub loop-rest-preserved : goal.loop-rest-preserved
 loop-rest-preserved c =
-    let taken : after_line c.loop-rest.reader c.next_line.result.0.now ≡ Ok c.in-Ok-Ok.next =
-    sym (rw c.in-Ok-Ok.field-0-is at c.in-Ok-Ok.ensures) in
-    (sym (is_taken _ _ _ _ _ _ c.next_line.ensures.cut taken) ∙ c.loop-rest.invariant.0, omega (arith, c.next_line.ensures.shorter, c.loop-rest.invariant.1))
+    let taken : after_line c.loop-rest.reader c.next_line.result.0.now ≡ Ok c.take_line.new.self =
+    rw c.in-Ok-Ok.field-0-is at c.in-Ok-Ok.ensures in
+    (sym (is_taken _ _ _ _ _ _ c.next_line.ensures.cut taken) ∙ c.loop-rest.invariant.0, omega (arith, c.next_line.ensures.shorter, c.loop-rest.invariant.1), λ clean. right _ _ (rw c.next_line.ensures.cut at (c.loop-rest.invariant.2 clean)))
 
 pub returns-in-Ok-Ok-into_script-clause-ok : goal.returns-in-Ok-Ok-into_script-clause-ok
 returns-in-Ok-Ok-into_script-clause-ok c =

@@ -7,10 +7,15 @@ ghost use Rattle.ho_events.specs.Script.Unbuilt.{is_unbuilt_verb as unbuilt_rule
 use ho_events::line::{Reason, Verb};
 
 /// What a first word says that its line is; [`Reason::Word`] exactly where no line begins with it.
-#[tactic(auto, unfolding(ho_events::specs::Script::Lines::verb_of))]
+///
+/// Most lines are writes, so this word is looked at first.
+#[tactic(auto, unfolding(ho_events::specs::Script::Lines::verb_of), using(crate::proofs::Verbs::write_first))]
 pub fn verb_of(word: &[u8]) -> Result<Verb, Reason>
     ensures { result ≡ verb_rule word.now }
 {
+    if word == b"write".as_slice() {
+        return Ok(Verb::Write);
+    }
     if let Some(verb) = head_verb(word) {
         return Ok(verb);
     }
@@ -106,6 +111,7 @@ pub fn is_unbuilt_verb(verb: Verb) -> bool
         | Verb::Agent
         | Verb::Memfd
         | Verb::Write
+        | Verb::Read
         | Verb::Create
         | Verb::Preserve
         | Verb::Close => false,

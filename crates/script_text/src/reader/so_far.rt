@@ -1,16 +1,15 @@
 //! What the lines so far say, as far as the next line depends on it.
 
-ghost use Rattle.std.specs.Prelude.{◌≡◌, ◌+◌, nat_lt, length, ◌==◌, Some};
+ghost use Rattle.std.specs.Prelude.{◌≡◌, ◌+◌, ◌==◌};
 ghost use Rattle.std.specs.List.{list_any};
 ghost use Rattle.ho_events.specs.Script.{lacks_head as lacks_rule, has_block as block_rule, has_section as section_rule, is_section_of, is_full as full_rule};
-ghost use Rattle.ho_events.specs.Script.SoFar.{place_of as place_rule, is_bound_by as bound_rule};
-ghost use Rattle.ho_events.specs.Script.Unbuilt.{is_create as create_rule, is_preserve as preserve_rule, commands_so_far, is_unbuilt_there as there_rule};
+ghost use Rattle.ho_events.specs.Script.SoFar.{place_of as place_rule};
+ghost use Rattle.ho_events.specs.Script.Unbuilt.{has_any_section as any_rule};
 
 use crate::reader::Reader;
 use ho_base::limits::AGENTS;
 use ho_base::name::Name;
 use ho_base::numbers::AgentNo;
-use ho_events::command::Command;
 use ho_events::script::AgentWork;
 
 impl Reader {
@@ -42,13 +41,6 @@ impl Reader {
         place.is_none() && self.agents.len() >= AGENTS as usize
     }
 
-    /// Whether an agent was named.
-    pub fn has_agent(&self) -> bool
-        ensures { result ≡ nat_lt 0 (length self.now.agents) }
-    {
-        !self.agents.is_empty()
-    }
-
     /// Whether the open round has a section of the agent at this place.
     pub fn has_section(&self, place: Option<usize>) -> bool
         ensures { result ≡ section_rule self.now place }
@@ -65,54 +57,11 @@ impl Reader {
         }
     }
 
-    /// Whether a command that the language allows isn't built after those before it.
-    pub fn is_unbuilt_there(&self, command: &Command) -> bool
-        ensures { result ≡ there_rule self.now command.now }
+    /// Whether the open round has a section.
+    pub fn has_any_section(&self) -> bool
+        ensures { result ≡ any_rule self.now }
     {
-        match command {
-            Command::Memfd(_, _) => self.has_label(),
-            Command::Write(label, _, _) => !self.binds(*label) || self.has_preserve(),
-            Command::Create(_) => self.has_create(),
-            Command::Preserve(_, _, label) => self.has_preserve() || !self.binds(*label),
-            _ => false,
-        }
-    }
-
-    /// Whether a label is bound.
-    fn has_label(&self) -> bool
-        ensures { result ≡ nat_lt 0 (length self.now.labels) }
-    {
-        !self.labels.is_empty()
-    }
-
-    /// Whether the agent of the last section has bound this label.
-    fn binds(&self, label: Name) -> bool
-        ensures { result ≡ bound_rule self.now.labels self.now.section (Some label) }
-    {
-        match &self.section {
-            Some(section) => self.labels.has(section.agent.0, Some(label)),
-            None => false,
-        }
-    }
-
-    /// Whether the last section has a create command.
-    fn has_create(&self) -> bool
-        ensures { result ≡ list_any create_rule (commands_so_far self.now.section) }
-    {
-        match &self.section {
-            Some(section) => section.creates,
-            None => false,
-        }
-    }
-
-    /// Whether the last section has a preserve command.
-    fn has_preserve(&self) -> bool
-        ensures { result ≡ list_any preserve_rule (commands_so_far self.now.section) }
-    {
-        match &self.section {
-            Some(section) => section.preserves,
-            None => false,
-        }
+        self.section.is_some()
     }
 }
 

@@ -10,21 +10,21 @@ use Rattle.kho_records.proofs.FrontTests.{front_read, many, names_kept}
 use Rattle.kho_records.proofs.session_frame.session_front.Goals as goal
 use Rattle.kho_records.proofs.session_frame.session_front.Goals.{then-names_rise, else-names_rise}
 
-pub returns-then-count-from : goal.returns-then-count-from
-returns-then-count-from c =
+pub returns-then-count-from-clause-front : goal.returns-then-count-from-clause-front
+returns-then-count-from-clause-front c =
     front_read (ram_of c.args.frames.now) c.args.at c.get_u64-count.result c.page_of-page.result.now (take (length c.page_of-page.result.now - 128) (drop 128 c.page_of-page.result.now)) false (items_at 128 session_kept c.get_u64-count.result (take (length c.page_of-page.result.now - 128) (drop 128 c.page_of-page.result.now))) c.page_of-page.ensures.value c.get_u64-count.ensures (from_place 128 c.page_of-page.result.now)
     (sym c.is_frame_number.ensures.exact ∙ c.if-not-is_frame_number.false) (sym c.has_head.ensures ∙ c.if-not-has_head.false)
     (many c.get_u64-count.result (omega (arith, c.if-count-from.true, c.from.ensures))) refl
 
-pub returns-in-None : goal.returns-in-None
-returns-in-None c =
+pub returns-in-None-clause-front : goal.returns-in-None-clause-front
+returns-in-None-clause-front c =
     front_read (ram_of c.args.frames.now) c.args.at c.get_u64-count.result c.page_of-page.result.now (take (length c.page_of-page.result.now - 128) (drop 128 c.page_of-page.result.now)) true None c.page_of-page.ensures.value c.get_u64-count.ensures (from_place 128 c.page_of-page.result.now)
     (sym c.is_frame_number.ensures.exact ∙ c.if-not-is_frame_number.false) (sym c.has_head.ensures ∙ c.if-not-has_head.false)
     (le-leb c.get_u64-count.result OUT_SLOTS (omega (arith, c.if-count-from.false, c.from.ensures)))
     (given (λ v. map session_view v.items) c.in_ok-session_slots.field-0 None (items_at 128 session_kept c.get_u64-count.result (take (length c.page_of-page.result.now - 128) (drop 128 c.page_of-page.result.now))) c.in-None.is c.in_ok-session_slots.ensures)
 
-pub returns-after-names_rise : goal.returns-after-names_rise
-returns-after-names_rise c =
+pub returns-after-names_rise-clause-front : goal.returns-after-names_rise-clause-front
+returns-after-names_rise-clause-front c =
     let read = front_read (ram_of c.args.frames.now) c.args.at c.get_u64-count.result c.page_of-page.result.now (take (length c.page_of-page.result.now - 128) (drop 128 c.page_of-page.result.now)) true (Some (map session_view c.in-Some.slots.items)) c.page_of-page.ensures.value c.get_u64-count.ensures (from_place 128 c.page_of-page.result.now)
     (sym c.is_frame_number.ensures.exact ∙ c.if-not-is_frame_number.false) (sym c.has_head.ensures ∙ c.if-not-has_head.false)
     (le-leb c.get_u64-count.result OUT_SLOTS (omega (arith, c.if-count-from.false, c.from.ensures)))

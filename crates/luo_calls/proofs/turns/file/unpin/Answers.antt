@@ -1,9 +1,30 @@
-use Rattle.std.proofs.Common.{ap, ◌∙◌}
-use Rattle.machine_core.specs.Machine.{Agent}
+use Rattle.std.proofs.Common.{refl, [], ◌∷◌, inl, inr, sym, subst, ap}
+use Rattle.ho_base.specs.declared.numbers.Kind.TheVariants.{Memfd}
+use Rattle.ho_events.specs.declared.event.Event.TheVariants.{FileUnpin}
+use Rattle.ho_world.specs.Acts.{IsFile}
+use Rattle.luo_calls.proofs.Cannot.{file_cannot}
+use Rattle.luo_calls.proofs.FileHalts.{broken_file_sticks, cannot_unpin, is_shut, is_other, file_claimed}
 use Rattle.luo_calls.proofs.FileReplies.{given_says}
+use Rattle.luo_calls.proofs.KindTurns as kinds
+use Rattle.luo_calls.proofs.Steps.{has}
 use Rattle.luo_calls.proofs.turns.file.unpin.Goals as goal
+
+pub returns-then-not-is_pinned-clause-sticks : goal.returns-then-not-is_pinned-clause-sticks
+returns-then-not-is_pinned-clause-sticks g c =
+    broken_file_sticks _ _ _ _ _ c.in_ok-slip.object _ c.of_file-number.ensures c.requires.free c.in_ok-slip.ensures.opens
+    (inl (FileUnpin, file_cannot c.in_ok-slip.object FileUnpin (cannot_unpin _ _ c.if-not-is_pinned.true c.is_pinned.ensures) c.args.at.now _))
+    c.broken_file.ensures.halt c.broken_file.ensures.held
+
+pub end-requires : goal.end-requires
+end-requires g c =
+    let t = c.unpin-entry.ensures in
+    kinds.file_can_at _ _ _ _ _ _ [] _ _ _ c.in_ok-slip.ensures.opens c.requires.free _ c.in_ok-slip.ensures.at t.told _ c.of_file-number.ensures c.requires.ready t.kept t.number t.start t.home t.run
 
 pub returns-clause-given : goal.returns-clause-given
 returns-clause-given g c =
-    given_says _ _ _ _ _ _ (c.reserve-room.ensures.home ∙ c.begin_file-object.ensures.home ∙ ap (λ (a : Agent). a.home) c.in_ok-slip.ensures.kept)
-    c.requires.empty c.unpin-entry.ensures.exact c.unpin-entry.ensures.given
+    given_says _ _ _ _ _ _ c.in_ok-slip.ensures.opens.found.machine c.requires.empty c.unpin-entry.ensures.exact c.unpin-entry.ensures.given
+
+pub returns-clause-goes : goal.returns-clause-goes
+returns-clause-goes g c =
+    kinds.file_turned_at _ _ _ _ _ c.unpin-entry.new.self (IsFile c.args.file Memfd c.in-Some.order ∷ []) _ _ _ c.in_ok-slip.ensures.opens c.requires.free _ c.in_ok-slip.ensures.at c.unpin-entry.ensures.told _ c.of_file-number.ensures _
+    (file_claimed (g.R.Reach.shown c.args.reach.now) (g.R.Reach.shown c.open_file.new.reach).hands c.args.file c.in_ok-slip.object _ c.in-Some.order (has _ _ _ _ _ c.in_ok-slip.ensures.opens) c.in-Some.ensures c.facts.ensures.exact) c.end.ensures

@@ -6,5 +6,5 @@ use Rattle.registry_core.proofs.registry.Registry.in_use.Goals as goal
 
 pub returns : goal.returns
 returns c =
-    subst (λ v. RegistryIs v (λ s. IsTrue c.index.result.now ↔ IsInUse c.args.file.0 s)) c.self.view_is
-    (use_told _ _ _ c.args.file.0 c.index.result.now c.self.invariant c.requires c.index.ensures)
+    subst (λ v. RegistryIs v (λ s. IsTrue c.is_used.result ↔ IsInUse c.args.file.0 s)) c.self.view_is
+    (use_told _ _ _ c.args.file.0 c.is_used.result c.self.invariant c.is_used.ensures)

@@ -1,17 +1,16 @@
-use Rattle.std.proofs.Common.{◌≡◌, not, subst}
-use Rattle.std.specs.Prelude.{option_map}
-use Rattle.std.specs.List.{find}
-use Rattle.std.proofs.Common.{false, slice_index_or}
-use Rattle.ho_base.specs.declared.limits.TheConstants.{FILES}
-use Rattle.ho_base.specs.declared.numbers.FileNo.{FileNo}
-use Rattle.ho_events.specs.Lists.{upto}
+use Rattle.std.proofs.Common.{◌≡◌, None, Some, subst}
 use Rattle.ho_events.specs.Registry.{least_free_file}
 use Rattle.registry_core.proofs.RegistryRuns.{least_file_told}
 use Rattle.registry_core.specs.RegistryValues.{RegistryIs}
 use Rattle.registry_core.proofs.registry.Registry.least_file.Goals as goal
 
+pub returns-in_err-file-clause-value : goal.returns-in_err-file-clause-value
+returns-in_err-file-clause-value c =
+    rw c.from_residual.ensures
+    (subst (λ v. RegistryIs v (λ s. least_free_file s.files ≡ None)) c.self.view_is
+    (least_file_told _ _ _ None c.self.invariant c.in_err-file.ensures.value))
+
 pub returns-clause-value : goal.returns-clause-value
 returns-clause-value c =
-    subst (λ v. RegistryIs v (λ s. least_free_file s.files ≡ option_map (λ (x : FileNo). x.0) c.free_number.result)) c.self.view_is
-    (least_file_told _ _ _ c.free_number.result c.self.invariant
-    (subst (λ xs. find (λ k. not (slice_index_or xs k false)) (upto FILES) ≡ option_map (λ (x : FileNo). x.0) c.free_number.result) c.as_slice.ensures.value c.free_number.ensures.value))
+    subst (λ v. RegistryIs v (λ s. least_free_file s.files ≡ Some c.in_ok-file.file)) c.self.view_is
+    (least_file_told _ _ _ (Some c.in_ok-file.file) c.self.invariant c.in_ok-file.ensures.value)

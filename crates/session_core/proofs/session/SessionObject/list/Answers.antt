@@ -15,11 +15,11 @@ invariant_of-self c =
     rw (items, c.append_plain_turn.ensures.kept)
     (list_keeps _ _ _ _ _ _ c.args.name c.args.token c.args.file c.args.handle c.self.invariant
     (subst (λ v. SessionIs v (λ s. IsTrue (admits s c.args.name c.args.token.0))) (sym c.self.view_is) c.requires.admitted)
-    (ap (λ (e : Entry). e.event) c.append_plain_turn.ensures.told) (ap (λ (e : Entry). e.reply) c.append_plain_turn.ensures.told))
+    (ap (λ (e : Entry). e.event) c.append_plain_turn.ensures.told) (ap (λ (e : Entry). e.reply) c.append_plain_turn.ensures.told) c.requires.file)
 
 pub returns-clause-run : goal.returns-clause-run
 returns-clause-run c =
     rw c.append_plain_turn.ensures.kept
     (keeps_run _ _ _ _ _ (list_keeps _ _ _ _ _ _ c.args.name c.args.token c.args.file c.args.handle c.self.invariant
     (subst (λ v. SessionIs v (λ s. IsTrue (admits s c.args.name c.args.token.0))) (sym c.self.view_is) c.requires.admitted)
-    (ap (λ (e : Entry). e.event) c.append_plain_turn.ensures.told) (ap (λ (e : Entry). e.reply) c.append_plain_turn.ensures.told)))
+    (ap (λ (e : Entry). e.event) c.append_plain_turn.ensures.told) (ap (λ (e : Entry). e.reply) c.append_plain_turn.ensures.told) c.requires.file))

@@ -1,0 +1,242 @@
+-- A block more: what one agent did alone, or that nobody worked, takes the history and the kernel on.
+use Rattle.std.proofs.Common.{◌≡◌, ◌≢◌, ℕ, ◌+◌, ◌<◌, Bool, true, false, not, ◌&&◌, ◌==◌, max, nat_lt, nat_le, List, [], ◌∷◌, ◌++◌, length, fold, cond, filter, refl, sym, ap, subst, ◌∙◌, arith, IsTrue, is_some}
+use Rattle.std.specs.Prelude.{Option, None, Some, count_by, slice_get}
+use Rattle.std.specs.List.{list_all}
+use Rattle.std.proofs.lemmas.Bool.Decides.{nat_tests}
+use Rattle.std.proofs.lemmas.List.{append-nil}
+use Rattle.ho_events.specs.History.{on, run_from, greatest_stamp, last_stamp}
+use Rattle.ho_events.specs.declared.entry.Entry.{Entry}
+use Rattle.ho_events.specs.declared.script.AgentWork.{AgentWork}
+use Rattle.ho_events.specs.declared.script.Block.{Block}
+use Rattle.ho_events.specs.declared.script.Block.TheVariants.{Round, Kexec}
+use Rattle.ho_events.specs.declared.slip.At.{At}
+use Rattle.ho_world.specs.World.{State, World, run}
+use Rattle.ho_world.specs.Alone.{IsRoundOf, first_at, IsAlone, GivesRound}
+use Rattle.ho_world.specs.Entries.{in_kernel, beginning, is_own, is_ok, ends_kernel, all_pairs}
+use Rattle.ho_world.specs.Legal.{kernel_due, labels_now}
+use Rattle.ho_world.specs.Logs.{HasDone, paired_on}
+use Rattle.ho_world.specs.Sequences.{Labels}
+use Rattle.ho_world.specs.Through.{HasRisingNumbers, IsThrough, IsNext}
+use Rattle.ho_world.proofs.AloneActs.{kernel_here}
+use Rattle.ho_world.proofs.AloneNext.{alone_is_next}
+use Rattle.ho_world.proofs.AloneStamps.{is_mine, goes_before, went_mine, went_goes}
+use Rattle.ho_world.proofs.Fronts.{and_both, and_left, and_right, all_follow, eq_true, filter_front}
+use Rattle.ho_world.proofs.Grow.{begins_same}
+use Rattle.ho_world.proofs.Rises.{on_parts, is_greatest}
+use Rattle.ho_world.proofs.Rounds.{idle_is_next}
+use Rattle.ho_world.proofs.Stamped.{greatest_parts}
+use Rattle.ho_world.proofs.Step.{one_more}
+use Rattle.ho_world.proofs.Went.{Went, went}
+use Rattle.machine_core.specs.Agents.{state_in}
+use Rattle.machine_core.specs.Objects.{Start}
+use Rattle.machine_core.specs.Kernels.{KernelValue, IsRunAt, start_in, history_in, object_at, starts_in, begun_in, histories_in}
+use Rattle.machine_core.specs.declared.object.Object.{Object}
+use Rattle.handover_cli.specs.Rounds.{WorkedAlone, IsAfter, labels_at, begins_at}
+use Rattle.handover_cli.specs.Works.{CanDo, CanRun, DidBlock, IsFit}
+
+-- entries that end no kernel count for none
+abbrev counted : (Entry → Bool) → ℕ → Entry → ℕ
+counted p n x = n + cond (p x) 1 0
+
+not_counted : (b : Bool) (n : ℕ) → IsTrue (not b) → n + cond b 1 0 ≡ n
+not_counted true n h = absurd cc
+not_counted false n h = omega arith
+
+count_none : (p : Entry → Bool) (n : ℕ) (ys : List Entry) → IsTrue (list_all (λ y. not (p y)) ys) → fold (counted p) n ys ≡ n
+count_none p n [] h = refl
+count_none p n (y ∷ ys) h =
+    ap (λ m. fold (counted p) m ys) (not_counted (p y) n (and_left (not (p y)) _ h)) ∙ count_none p n ys (and_right (not (p y)) _ h)
+
+count_from : (p : Entry → Bool) (n : ℕ) (xs ys : List Entry) → IsTrue (list_all (λ y. not (p y)) ys) → fold (counted p) n (xs ++ ys) ≡ fold (counted p) n xs
+count_from p n [] ys h = count_none p n ys h
+count_from p n (x ∷ xs) ys h = count_from p (counted p n x) xs ys h
+
+count_parts : (p : Entry → Bool) (xs ys : List Entry) → IsTrue (list_all (λ y. not (p y)) ys) → count_by p (xs ++ ys) ≡ count_by p xs
+count_parts p xs ys h = count_from p 0 xs ys h
+
+-- stamps rise where entries go in order
+abbrev rises : Entry → Entry → Bool
+rises d e = nat_lt d.stamp e.stamp
+
+all_weaker : (x : Entry) (ys : List Entry) → IsTrue (list_all (goes_before x) ys) → IsTrue (list_all (rises x) ys)
+all_weaker x ys h = all_follow (goes_before x) (rises x) ys (λ y t. and_left (nat_lt x.stamp y.stamp) _ t) h
+
+pairs_weaker : (xs : List Entry) → IsTrue (all_pairs goes_before xs) → IsTrue (all_pairs rises xs)
+unfolding all_pairs
+pairs_weaker [] h = refl
+pairs_weaker (x ∷ xs) h =
+    and_both (list_all (rises x) xs) _ (all_weaker x xs (and_left (list_all (goes_before x) xs) _ h)) (pairs_weaker xs (and_right (list_all (goes_before x) xs) _ h))
+
+-- a place without a start is without a history
+no_history : (x : Option Object) → start_in x ≡ None → history_in x ≡ []
+no_history None h = refl
+no_history (Some o) h = absurd cc
+
+no_run : (s : State) (h : List Entry) → h ≡ [] → IsTrue (is_some (run s h))
+unfolding run_from
+no_run s [] e = refl
+no_run s (x ∷ xs) e = absurd cc
+
+-- a history of an object that began so is a run
+ran : (at : State) (s : Option Start) (h : List Entry) → ((x : State) → state_in s ≡ Some x → at ≡ x) → (s ≡ None → h ≡ []) → IsRunAt s h → IsTrue (is_some (run at h))
+ran at None h is none r = no_run at h (none refl)
+ran at (Some s) h is none r = subst (λ x. IsTrue (is_some (run x h))) (sym (is s.state refl)) r
+
+module _ (start : World) (blocks : List Block) (es new : List Entry) (b k : ℕ) (kernel kernel' : KernelValue) (work : AgentWork)
+    (numbers : HasRisingNumbers blocks) (r : IsRoundOf blocks b work) (t : IsThrough start blocks es b k) (above : 0 < work.agent.0)
+    (here : IsAfter start blocks es k kernel) (w : WorkedAlone kernel work kernel' new) where
+  abbrev first : At
+  first = first_at k work es
+
+  abbrev histories : ℕ → List Entry
+  histories o = on o (in_kernel k es)
+
+  abbrev before : Labels
+  before = labels_at kernel work.agent.0
+
+  abbrev later : Labels
+  later = labels_at kernel' work.agent.0
+
+  abbrev many : ℕ
+  many = length work.commands
+
+  first_is : begins_at kernel work ≡ first
+  first_is =
+      let with_kernel : ℕ → At = λ n. record { kernel = n; agent = work.agent; command = work.first; last = kernel.base } in
+      let with_last : ℕ → At = λ l. record { kernel = k; agent = work.agent; command = work.first; last = l } in
+      ap with_kernel here.number ∙ ap with_last here.base
+
+  done : HasDone (begun_in kernel.objects) work.commands before first many later (paired_on (begun_in kernel.objects) histories [] new) w.did.last
+  done =
+      subst (λ (f : ℕ → List Entry). HasDone (begun_in kernel.objects) work.commands before first many later (paired_on (begun_in kernel.objects) f [] new) w.did.last) here.histories
+      (subst (λ (a : At). HasDone (begun_in kernel.objects) work.commands before a many later (paired_on (begun_in kernel.objects) (histories_in kernel.objects) [] new) w.did.last) first_is w.did.done)
+
+  all_went : Went (begun_in kernel.objects) histories work.commands before first many later new w.did.last
+  all_went = went (begun_in kernel.objects) histories work.commands before first many later new w.did.last done
+
+  all_mine : IsTrue (list_all (is_mine first many) new)
+  all_mine = went_mine (begun_in kernel.objects) histories work.commands before first many later new w.did.last all_went
+
+  all_go : IsTrue (all_pairs goes_before new)
+  all_go = went_goes (begun_in kernel.objects) histories work.commands before first many later new w.did.last all_went
+
+  of_kernel : (e : Entry) → IsTrue (is_mine first many e) → IsTrue (e.kernel == k)
+  of_kernel e h = and_left (e.kernel == k) _ (and_left (e.kernel == k && e.agent.0 == work.agent.0) _ h)
+
+  of_agent : (e : Entry) → IsTrue (is_mine first many e) → IsTrue (e.agent.0 == work.agent.0)
+  of_agent e h = and_right (e.kernel == k) _ (and_left (e.kernel == k && e.agent.0 == work.agent.0) _ h)
+
+  all_here : IsTrue (list_all (λ e. e.kernel == k) new)
+  all_here = all_follow (is_mine first many) (λ e. e.kernel == k) new of_kernel all_mine
+
+  kernel_now : in_kernel k (es ++ new) ≡ in_kernel k es ++ new
+  kernel_now = kernel_here start k es new all_here
+
+  -- each object's history
+  all_on : (o : ℕ) → histories_in kernel'.objects o ≡ on o (in_kernel k es ++ new)
+  all_on o =
+      ap (λ (f : ℕ → List Entry). f o) w.histories
+      ∙ ap (λ (f : ℕ → List Entry). f o ++ on o new) here.histories
+      ∙ sym (on_parts o (in_kernel k es) new)
+
+  runs : (o : ℕ) → IsTrue (is_some (run ((beginning start es k).at o) (on o (in_kernel k es ++ new))))
+  runs o =
+      subst (λ h. IsTrue (is_some (run ((beginning start es k).at o) h))) (all_on o)
+      (ran ((beginning start es k).at o) (starts_in kernel'.objects o) (histories_in kernel'.objects o)
+      (λ x is. here.begun o x (ap (λ (f : ℕ → Option Start). state_in (f o)) (sym w.starts) ∙ is))
+      (λ none. no_history (object_at kernel'.objects o) none)
+      (w.runs o))
+
+  alone : IsAlone start blocks es new k work (begun_in kernel.objects) before later
+  alone = record {
+    kernel = here.due;
+    agent = above;
+    begun_is = here.begun;
+    labels_are = here.labels work.agent.0;
+    last = w.did.last;
+    done = done;
+    objects = runs;
+  }
+
+  gives : GivesRound start blocks es new b k work later w.did.last.last
+  unfolding alone
+  gives = alone_is_next start blocks es new b k work (begun_in kernel.objects) before later numbers r t alone
+
+  pub worked_next : IsNext start blocks es new b k
+  worked_next = gives.next
+
+  -- the kernel stays, as no entry is agent 0's
+  no_end : (e : Entry) → IsTrue (is_mine first many e) → IsTrue (not (ends_kernel e))
+  no_end e h = other e.agent.0 (is_own e.object) (is_ok e.reply) (eq_true e.agent.0 work.agent.0 (of_agent e h))
+    where
+      not_zero : (x : ℕ) → x ≡ work.agent.0 → (x == 0) ≡ false
+      not_zero x is = let up : 0 < work.agent.0 = above in grind (arith, nat_tests)
+
+      other : (x : ℕ) (p q : Bool) → x ≡ work.agent.0 → IsTrue (not ((x == 0 && p) && q))
+      other x p q is = ap (λ c. not ((c && p) && q)) (not_zero x is)
+
+  due_now : kernel_due (es ++ new) ≡ k
+  due_now = count_parts ends_kernel es new (all_follow (is_mine first many) (λ e. not (ends_kernel e)) new no_end all_mine) ∙ here.due
+
+  not_kernel : (m j : ℕ) → j < k → IsTrue (m == k) → IsTrue (not (m == j))
+  not_kernel m j less h = grind (arith, nat_tests)
+
+  kernels_before : (j : ℕ) → j < k → in_kernel j (es ++ new) ≡ in_kernel j es
+  unfolding in_kernel
+  kernels_before j less = filter_front (λ e. e.kernel == j) es new (all_follow (λ e. e.kernel == k) (λ e. not (e.kernel == j)) new (λ e h. not_kernel e.kernel j less h) all_here)
+
+  begins_now : beginning start (es ++ new) k ≡ beginning start es k
+  begins_now = begins_same start (es ++ new) es k kernels_before
+
+  base_now : kernel'.base ≡ greatest_stamp (in_kernel k (es ++ new))
+  base_now =
+      w.base ∙ ap (λ n. max n (last_stamp new)) here.base
+      ∙ ap (λ n. max (greatest_stamp (in_kernel k es)) n) (is_greatest new (pairs_weaker new all_go))
+      ∙ sym (greatest_parts (in_kernel k es) new) ∙ ap greatest_stamp (sym kernel_now)
+
+  labels_after : (a : ℕ) → labels_at kernel' a ≡ labels_now blocks k a (es ++ new)
+  labels_after a = at a (a == work.agent.0) refl
+    where
+      differ : (x y : ℕ) → (x == y) ≡ false → x ≢ y
+      differ x y h e = absurd grind (arith, nat_tests)
+
+      at : (n : ℕ) (c : Bool) → (n == work.agent.0) ≡ c → labels_at kernel' n ≡ labels_now blocks k n (es ++ new)
+      at n true is = subst (λ m. labels_at kernel' m ≡ labels_now blocks k m (es ++ new)) (sym (eq_true n work.agent.0 is)) gives.labels
+      at n false is =
+          let other : n ≢ work.agent.0 = differ n work.agent.0 is in
+          w.others n other ∙ here.labels n ∙ sym (gives.others n other)
+
+  pub worked_after : IsAfter start blocks (es ++ new) k kernel'
+  worked_after = record {
+    number = w.number ∙ here.number;
+    due = due_now;
+    begun = λ o s is. ap (λ (x : World). x.at o) begins_now ∙ here.begun o s (ap (λ (f : ℕ → Option Start). state_in (f o)) (sym w.starts) ∙ is);
+    histories = λ i o. point o i;
+    base = base_now;
+    labels = labels_after;
+    lists = w.lists ∙ here.lists;
+  }
+    where
+      point : (o : ℕ) → histories_in kernel'.objects o ≡ on o (in_kernel k (es ++ new))
+      point o = all_on o ∙ ap (on o) (sym kernel_now)
+
+-- a block that was done: the history goes through it, and the kernel is as the longer history says
+pub record GoesOn (start : World) (blocks : List Block) (es new : List Entry) (b : ℕ) (kernel : KernelValue) : Type 0 where
+  pub through : IsThrough start blocks (es ++ new) (b + 1) 0
+  pub after : IsAfter start blocks (es ++ new) 0 kernel
+
+pub block_done : (start : World) (blocks : List Block) (es new : List Entry) (b : ℕ) (kernel kernel' : KernelValue) (block : Block)
+    → CanRun blocks → slice_get blocks b ≡ Some block → CanDo block → IsThrough start blocks es b 0 → IsAfter start blocks es 0 kernel → DidBlock block kernel kernel' new
+    → GoesOn start blocks es new b kernel'
+block_done start blocks es new b kernel kernel' (Round []) runs is can t here did = record {
+  through = one_more start blocks es new b 0 t (subst (λ xs. IsNext start blocks es xs b 0) (sym did.1) (idle_is_next start blocks es b 0 is t));
+  after = subst (λ xs. IsAfter start blocks xs 0 kernel') (sym (append-nil es) ∙ ap (λ xs. es ++ xs) (sym did.1)) (subst (λ (k : KernelValue). IsAfter start blocks es 0 k) (sym did.0) here);
+}
+block_done start blocks es new b kernel kernel' (Round (work ∷ [])) runs is can t here did =
+    let round : IsRoundOf blocks b work = runs.rounds b work can.above is in
+    record {
+      through = one_more start blocks es new b 0 t (worked_next start blocks es new b 0 kernel kernel' work runs.rising round t can.above here did);
+      after = worked_after start blocks es new b 0 kernel kernel' work runs.rising round t can.above here did;
+    }
+block_done start blocks es new b kernel kernel' (Round (work ∷ more ∷ works)) runs is can t here did = absurd can
+block_done start blocks es new b kernel kernel' (Kexec blob) runs is can t here did = absurd can

@@ -1,0 +1,31 @@
+use Rattle.std.proofs.Common.{sym, subst}
+use Rattle.ho_events.specs.declared.event.Event.TheVariants.{RegFindOut}
+use Rattle.luo_calls.specs.declared.stuck.Stuck.{Stuck}
+use Rattle.luo_calls.specs.Doing.{SticksAfter}
+use Rattle.luo_calls.proofs.Chains.{ready_after}
+use Rattle.luo_calls.proofs.Closes.{none_comes, same_reply, slot_comes_if, slot_stops_if}
+use Rattle.luo_calls.proofs.Nested.{sticks_first}
+use Rattle.luo_calls.proofs.commands.close.close_turns.Goals as goal
+
+pub returns-in-Err-clause-stopped : goal.returns-in-Err-clause-stopped
+returns-in-Err-clause-stopped g c =
+    subst (λ (s : Stuck). SticksAfter s c.args.at.now c.find_out.new.at (g.R.Reach.shown c.args.reach.now) (g.R.Reach.shown c.find_out.new.reach)) (sym c.empty_handed.ensures.stuck)
+    (sticks_first _ _ _ _ _ c.in-Err.ensures.same_at c.in-Err.ensures.sticks)
+
+pub close_slot-requires-clause-ready : goal.close_slot-requires-clause-ready
+close_slot-requires-clause-ready g c = ready_after _ _ _ _ _ c.requires.ready c.in-Ok.ensures.goes
+
+pub end_command-requires : goal.end_command-requires
+end_command-requires g c = record { ready = ready_after _ _ _ _ _ c.requires.ready c.in-Ok.ensures.goes }
+
+pub returns-in-OkSlot-clause-comes : goal.returns-in-OkSlot-clause-comes
+returns-in-OkSlot-clause-comes g c =
+    slot_comes_if c.args.name c.in-OkSlot.slot _ _ _ _ _ _ c.close_slot.result
+    (same_reply _ _ (RegFindOut c.args.name) _ _ _ _ _ _ c.in-OkSlot.is c.in-Ok.ensures.goes) c.close_slot.ensures.closes
+
+pub returns-in-OkSlot-clause-stopped : goal.returns-in-OkSlot-clause-stopped
+returns-in-OkSlot-clause-stopped g c = slot_stops_if _ _ _ _ _ _ _ c.close_slot.result c.in-Ok.ensures.goes c.close_slot.ensures.stopped
+
+pub returns-in-Ok-end_command-clause-comes : goal.returns-in-Ok-end_command-clause-comes
+returns-in-Ok-end_command-clause-comes g c labels =
+    none_comes c.args.name _ _ _ _ _ _ labels (same_reply _ _ (RegFindOut c.args.name) _ _ _ _ _ _ c.in-NoSession.is c.in-Ok.ensures.goes) c.in-Ok-end_command.ensures.goes

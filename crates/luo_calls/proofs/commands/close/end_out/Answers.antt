@@ -1,0 +1,51 @@
+use Rattle.std.proofs.lemmas.Result.{err_from_is_err_and}
+use Rattle.std.proofs.Common.{[], ap, ◌∙◌, true}
+use Rattle.ho_base.specs.Objects.{registry_no, session_no}
+use Rattle.ho_events.specs.declared.event.Event.TheVariants.{SessionClose}
+use Rattle.luo_calls.specs.Opened.{without}
+use Rattle.luo_calls.proofs.Chains.{ready_after, then_goes}
+use Rattle.luo_calls.proofs.Closes.{answered_as, same_reply, still_free}
+use Rattle.luo_calls.proofs.Nested.{ready_without, sticks_first, sticks_next}
+use Rattle.luo_calls.proofs.commands.close.end_out.Goals as goal
+
+pub returns-in_err-end_session-clause-sticks : goal.returns-in_err-end_session-clause-sticks
+returns-in_err-end_session-clause-sticks g c =
+    let b = without (session_no c.args.slot.0) (g.R.Reach.shown c.args.reach.now) in
+    let p = err_from_is_err_and c.from_residual.result c.from_residual.ensures.1 in rw (p.1, p.2) (sticks_first _ _ _ b _ c.in_err-end_session.ensures.same_at c.in_err-end_session.ensures.sticks)
+
+pub drop_name-requires-clause-ready : goal.drop_name-requires-clause-ready
+drop_name-requires-clause-ready g c =
+    let a = g.R.Reach.shown c.args.reach.now in let n = session_no c.args.slot.0 in
+    ready_after _ _ _ (without n a) _ (ready_without n c.args.at.now a c.requires.ready) (c.in_ok-end_session.ensures.goes [] tt)
+
+pub drop_name-requires-clause-free : goal.drop_name-requires-clause-free
+drop_name-requires-clause-free g c =
+    ap (λ h. h registry_no) (c.in_ok-end_session.ensures.goes [] tt).hands ∙ still_free registry_no (session_no c.args.slot.0) (g.R.Reach.shown c.args.reach.now).hands c.requires.free
+
+pub returns-in_err-drop_name-clause-sticks : goal.returns-in_err-drop_name-clause-sticks
+returns-in_err-drop_name-clause-sticks g c =
+    let b = without (session_no c.args.slot.0) (g.R.Reach.shown c.args.reach.now) in
+    let p = err_from_is_err_and c.from_residual-in_err-drop_name.result c.from_residual-in_err-drop_name.ensures.1 in rw (p.1, p.2)
+    (sticks_next _ _ _ _ _ b _ _ (c.in_ok-end_session.ensures.goes [] tt) c.in_err-drop_name.ensures.same_at c.in_err-drop_name.ensures.sticks)
+
+pub end_command-requires : goal.end_command-requires
+end_command-requires g c =
+    let a = g.R.Reach.shown c.args.reach.now in let n = session_no c.args.slot.0 in
+    record {
+      ready =
+          ready_after _ _ _ _ _ (ready_after _ _ _ (without n a) _ (ready_without n c.args.at.now a c.requires.ready) (c.in_ok-end_session.ensures.goes [] tt))
+          c.in_ok-drop_name.ensures.goes;
+    }
+
+pub returns-in_err-end_command-clause-sticks : goal.returns-in_err-end_command-clause-sticks
+returns-in_err-end_command-clause-sticks g c =
+    let b = without (session_no c.args.slot.0) (g.R.Reach.shown c.args.reach.now) in
+    let p = err_from_is_err_and c.from_residual-in_err-end_command.result c.from_residual-in_err-end_command.ensures.1 in rw (p.1, p.2)
+    (sticks_next _ _ _ _ _ b _ _ (then_goes _ _ _ _ _ b _ _ (c.in_ok-end_session.ensures.goes [] tt) c.in_ok-drop_name.ensures.goes) c.in_err-end_command.ensures.same_at c.in_err-end_command.ensures.sticks)
+
+pub returns-clause-goes : goal.returns-clause-goes
+returns-clause-goes g c claims known =
+    let b = without (session_no c.args.slot.0) (g.R.Reach.shown c.args.reach.now) in
+    then_goes _ _ _ _ _ b _ _
+    (same_reply _ claims (SessionClose c.args.name) _ _ _ _ b _ (answered_as c.args.held c.args.name true _ c.requires.out c.in_ok-end_session.ensures.answer) (c.in_ok-end_session.ensures.goes claims known))
+    (then_goes _ _ _ _ _ _ _ _ c.in_ok-drop_name.ensures.goes c.in_ok-end_command.ensures.goes)

@@ -1,0 +1,8 @@
+use Rattle.luo_calls.proofs.Sticking.{can_release_after, halts_after}
+use Rattle.luo_calls.proofs.commands.create.create.Goals as goal
+
+pub release-requires : goal.release-requires
+release-requires g c = can_release_after _ _ _ _ _ c.in-Err.ensures.sticks
+
+pub returns-in-Err-clause-halts : goal.returns-in-Err-clause-halts
+returns-in-Err-clause-halts g c labels = halts_after labels _ _ _ _ _ _ _ c.in-Err.ensures.sticks c.release.ensures.halt c.release.ensures.released

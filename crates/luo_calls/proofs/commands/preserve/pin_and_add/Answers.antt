@@ -1,0 +1,68 @@
+use Rattle.std.proofs.Common.{refl, sym, subst, IsTrue}
+use Rattle.std.specs.Prelude.{Some}
+use Rattle.ho_events.specs.declared.reply.Reply.{Reply}
+use Rattle.ho_world.specs.Sequences.Preserving.{is_pin_refusal}
+use Rattle.std.proofs.lemmas.Result.{err_from_is_err_and}
+use Rattle.ho_base.specs.Objects.{session_no}
+use Rattle.luo_calls.specs.declared.stuck.Stuck.{Stuck}
+use Rattle.luo_calls.specs.Opened.{without}
+use Rattle.luo_calls.specs.Stuck.{Sticks}
+use Rattle.luo_calls.proofs.Chains.{ready_after}
+use Rattle.luo_calls.proofs.Nested as nested
+use Rattle.luo_calls.proofs.Preserves.{admitted_answer, lost_goes, pin_loss, pin_refused, pinned_goes}
+use Rattle.luo_calls.proofs.commands.preserve.pin_and_add.Goals as goal
+
+pub returns-in-Err-clause-sticks : goal.returns-in-Err-clause-sticks
+returns-in-Err-clause-sticks g c =
+    let a = g.R.Reach.shown c.args.reach.now in let n = session_no c.args.slot.0 in
+    nested.sticks_first c.args.at.now _ _ (without n a) _ c.in-Err.ensures.same_at
+    (subst (λ (s : Stuck). Sticks c.args.at.now s (without n a) (g.R.Reach.shown c.under.new.reach)) (sym c.under.ensures.stuck)
+    (nested.under_at c.args.at.now _ _ n a _ _ _ c.of_session-number.ensures c.in-Err.ensures.sticks c.requires.holds c.under.ensures.ended))
+
+pub mark_and_add-requires-clause-ready : goal.mark_and_add-requires-clause-ready
+mark_and_add-requires-clause-ready g c = ready_after _ _ _ _ _ c.requires.ready c.in-Ok.ensures.goes
+
+pub returns-in_err-mark_and_add-in-OkRuns-clause-sticks : goal.returns-in_err-mark_and_add-in-OkRuns-clause-sticks
+returns-in_err-mark_and_add-in-OkRuns-clause-sticks g c =
+    let a = g.R.Reach.shown c.args.reach.now in let n = session_no c.args.slot.0 in
+    let p = err_from_is_err_and c.from_residual.result c.from_residual.ensures.1 in rw (p.1, p.2)
+    (nested.sticks_later _ _ _ _ _ (without n a) (without n (g.R.Reach.shown c.pin.new.reach)) _ (nested.within_goes _ _ _ n a _ c.in-Ok.ensures.goes) c.in_err-mark_and_add-in-OkRuns.ensures.sticks)
+
+pub add-requires : goal.add-requires
+add-requires g c =
+    let a = g.R.Reach.shown c.args.reach.now in
+    record {
+      ready = ready_after _ _ _ _ _ c.requires.ready c.in-Ok.ensures.goes;
+      slot = c.requires.slot;
+      file = c.requires.file;
+      holds = nested.holds_goes _ _ _ _ a _ _ c.requires.holds c.in-Ok.ensures.goes;
+      lost = pin_loss _ (pin_refused _ c.in-Ok.ensures.reply c.in_default.not-OkRuns);
+    }
+
+pub returns-in_err-reply-in_default : goal.returns-in_err-reply-in_default
+returns-in_err-reply-in_default g c =
+    let a = g.R.Reach.shown c.args.reach.now in let n = session_no c.args.slot.0 in
+    let p = err_from_is_err_and c.from_residual-in_err-reply-in_default.result c.from_residual-in_err-reply-in_default.ensures.1 in rw (p.1, p.2)
+    (record {
+      goes = tt;
+      told = tt;
+      sticks = nested.sticks_next _ _ _ _ _ (without n a) (without n (g.R.Reach.shown c.pin.new.reach)) _ (nested.within_goes _ _ _ n a _ c.in-Ok.ensures.goes) c.in_err-reply-in_default.ensures.same_at c.in_err-reply-in_default.ensures.sticks;
+    })
+
+pub returns-in_ok-mark_and_add-in-OkRuns-clause-goes : goal.returns-in_ok-mark_and_add-in-OkRuns-clause-goes
+returns-in_ok-mark_and_add-in-OkRuns-clause-goes g c =
+    let a = g.R.Reach.shown c.args.reach.now in let n = session_no c.args.slot.0 in
+    pinned_goes c.args.slot c.args.name c.args.token c.args.file c.in-Ok.pinned.0 c.in-OkRuns.runs _ c.of.result c.in-Ok.pinned.1 _ _ _ (without n a) (without n (g.R.Reach.shown c.pin.new.reach)) _
+    c.in-OkRuns.is c.of.ensures refl (nested.within_goes _ _ _ n a _ c.in-Ok.ensures.goes) c.in_ok-mark_and_add-in-OkRuns.ensures.goes
+
+pub returns-in_ok-reply-in_default : goal.returns-in_ok-reply-in_default
+returns-in_ok-reply-in_default g c =
+    let a = g.R.Reach.shown c.args.reach.now in let n = session_no c.args.slot.0 in
+    let e = admitted_answer _ c.args.name c.args.token.0 (Some c.in-Ok.pinned.1) _ c.requires.admitted c.in_ok-reply-in_default.ensures.answer in
+    record {
+      goes =
+          lost_goes c.args.slot c.args.name c.args.token c.args.file _ c.in-Ok.pinned.1 c.in_ok-reply-in_default.reply _ _ _ (without n a) (without n (g.R.Reach.shown c.pin.new.reach)) _
+          e (nested.within_goes _ _ _ n a _ c.in-Ok.ensures.goes) c.in_ok-reply-in_default.ensures.goes;
+      told = subst (λ (x : Reply). IsTrue (is_pin_refusal x)) (sym e) (pin_refused _ c.in-Ok.ensures.reply c.in_default.not-OkRuns);
+      sticks = tt;
+    }

@@ -1,0 +1,6 @@
+use Rattle.luo_calls.proofs.Sticking.{halts_after}
+use Rattle.luo_calls.proofs.commands.write.write.Goals as goal
+
+pub returns-in-Err-clause-halts : goal.returns-in-Err-clause-halts
+returns-in-Err-clause-halts g c =
+    halts_after c.args.labels.now.bound _ _ _ _ _ _ _ c.in-Err.ensures.stopped c.release.ensures.halt c.release.ensures.released

@@ -1,0 +1,24 @@
+use Rattle.std.proofs.Common.{sym, subst}
+use Rattle.luo_calls.specs.declared.stuck.Stuck.{Stuck}
+use Rattle.luo_calls.specs.Doing.{SticksAfter}
+use Rattle.luo_calls.proofs.Chains.{ready_after}
+use Rattle.luo_calls.proofs.Nested as nested
+use Rattle.luo_calls.proofs.WriteCommands as writes
+use Rattle.luo_calls.proofs.commands.write.write_turns.Goals as goal
+
+pub returns-in-Ok-clause-comes : goal.returns-in-Ok-clause-comes
+returns-in-Ok-clause-comes g c =
+    writes.no_file c.args.labels.now.bound c.args.label c.args.off c.args.bytes.now _ _ _ _ c.in_default.ensures.found c.in-Ok.ensures.goes
+
+pub returns-in-Err-clause-stopped : goal.returns-in-Err-clause-stopped
+returns-in-Err-clause-stopped g c =
+    subst (λ (s : Stuck). SticksAfter s c.args.at.now c.end_command.new.at (g.R.Reach.shown c.args.reach.now) (g.R.Reach.shown c.end_command.new.reach)) (sym c.empty_handed.ensures.stuck)
+    (nested.sticks_first _ _ _ _ _ c.in-Err.ensures.same_at c.in-Err.ensures.sticks)
+
+pub end_command-requires-2 : goal.end_command-requires-2
+end_command-requires-2 g c = record { ready = ready_after _ _ _ _ _ c.requires.ready c.in_ok-wrote.ensures.goes }
+
+pub returns-in-Ok-end_command-clause-comes : goal.returns-in-Ok-end_command-clause-comes
+returns-in-Ok-end_command-clause-comes g c =
+    writes.answered c.args.labels.now.bound c.args.label c.args.off c.args.bytes.now c.in-Some.file c.in-Some.ensures.found _ _ _ _ _ _
+    c.in_ok-wrote.wrote _ _ c.reply_of.ensures c.reply_of-in-Ok-end_command.ensures c.in_ok-wrote.ensures.told c.in_ok-wrote.ensures.goes c.in-Ok-end_command.ensures.goes

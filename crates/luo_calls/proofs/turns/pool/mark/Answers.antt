@@ -1,0 +1,21 @@
+use Rattle.std.proofs.Common.{refl, []}
+use Rattle.ho_events.specs.declared.event.Event.TheVariants.{PoolMark}
+use Rattle.luo_calls.proofs.Cannot.{pool_cannot}
+use Rattle.luo_calls.proofs.KindTurns as kinds
+use Rattle.luo_calls.proofs.PoolHalts.{broken_pool_sticks, cannot_mark}
+use Rattle.luo_calls.proofs.turns.pool.mark.Goals as goal
+
+pub returns-then-not-can_mark-clause-sticks : goal.returns-then-not-can_mark-clause-sticks
+returns-then-not-can_mark-clause-sticks g c =
+    broken_pool_sticks _ _ _ c.in_ok-slip.pool _ c.requires.free c.in_ok-slip.ensures.opens (PoolMark c.args.order c.args.runs.now)
+    (pool_cannot c.in_ok-slip.pool (PoolMark c.args.order c.args.runs.now) (cannot_mark _ c.args.order c.args.runs.now _ c.if-not-can_mark.true c.can_mark.ensures.exact) c.args.at.now _)
+    c.broken_pool.ensures.halt c.broken_pool.ensures.held
+
+pub end-requires : goal.end-requires
+end-requires g c =
+    let t = c.mark-entry.ensures in
+    kinds.pool_can _ _ _ _ _ [] _ _ _ c.in_ok-slip.ensures.opens c.requires.free _ c.in_ok-slip.ensures.at t.told c.requires.ready t.kept t.start t.home t.shape t.run
+
+pub returns-clause-goes : goal.returns-clause-goes
+returns-clause-goes g c =
+    kinds.pool_turned _ _ _ _ c.mark-entry.new.self [] _ _ _ c.in_ok-slip.ensures.opens c.requires.free _ c.in_ok-slip.ensures.at c.mark-entry.ensures.told _ tt c.end.ensures

@@ -1,0 +1,19 @@
+use Rattle.std.proofs.Common.{refl, [], inl, inr}
+use Rattle.luo_calls.proofs.FileHalts.{broken_file_sticks, is_shut}
+use Rattle.luo_calls.proofs.KindTurns as kinds
+use Rattle.luo_calls.proofs.turns.read.read_file.Goals as goal
+
+pub returns-then-not-is_open-clause-sticks : goal.returns-then-not-is_open-clause-sticks
+returns-then-not-is_open-clause-sticks g c =
+    broken_file_sticks _ _ _ _ _ c.in_ok-slip.object _ c.of_file-number.ensures c.requires.free c.in_ok-slip.ensures.opens
+    (inr (inl (is_shut c.in_ok-slip.object _ c.if-not-is_open.true c.is_open.ensures)))
+    c.broken_file.ensures.halt c.broken_file.ensures.held
+
+pub end-requires : goal.end-requires
+end-requires g c =
+    let t = c.read-entry.ensures in
+    kinds.file_can_at _ _ _ _ _ _ [] _ _ _ c.in_ok-slip.ensures.opens c.requires.free _ c.in_ok-slip.ensures.at t.told _ c.of_file-number.ensures c.requires.ready t.kept t.number t.start t.home t.run
+
+pub returns-clause-goes : goal.returns-clause-goes
+returns-clause-goes g c =
+    kinds.file_turned_at _ _ _ _ _ c.read-entry.new.self [] _ _ _ c.in_ok-slip.ensures.opens c.requires.free _ c.in_ok-slip.ensures.at c.read-entry.ensures.told _ c.of_file-number.ensures _ tt c.end.ensures

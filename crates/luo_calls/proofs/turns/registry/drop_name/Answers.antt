@@ -1,0 +1,21 @@
+use Rattle.std.proofs.Common.{refl}
+use Rattle.ho_events.specs.declared.event.Event.TheVariants.{RegDropName}
+use Rattle.luo_calls.proofs.Cannot.{registry_cannot}
+use Rattle.luo_calls.proofs.KindTurns as kinds
+use Rattle.luo_calls.proofs.RegistryHalts.{broken_sticks, cannot_drop}
+use Rattle.luo_calls.proofs.turns.registry.drop_name.Goals as goal
+
+pub returns-then-not-is_out-clause-sticks : goal.returns-then-not-is_out-clause-sticks
+returns-then-not-is_out-clause-sticks g c =
+    broken_sticks _ _ _ c.in_ok-slip.registry _ c.requires.free c.in_ok-slip.ensures.opens (RegDropName c.args.name)
+    (registry_cannot c.in_ok-slip.registry (RegDropName c.args.name) (cannot_drop _ c.args.name _ c.if-not-is_out.true c.is_out.ensures) c.args.at.now _)
+    c.broken_registry.ensures.halt c.broken_registry.ensures.held
+
+pub end-requires : goal.end-requires
+end-requires g c =
+    let t = c.drop_name-entry.ensures in
+    kinds.registry_can _ _ _ _ _ _ _ _ c.in_ok-slip.ensures.opens c.requires.free _ c.in_ok-slip.ensures.at t.told c.requires.ready t.kept t.start t.run
+
+pub returns-clause-goes : goal.returns-clause-goes
+returns-clause-goes g c =
+    kinds.registry_turned _ _ _ _ c.drop_name-entry.new.self _ _ _ c.in_ok-slip.ensures.opens c.requires.free _ c.in_ok-slip.ensures.at c.drop_name-entry.ensures.told _ c.end.ensures

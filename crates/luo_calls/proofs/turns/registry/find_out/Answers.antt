@@ -1,0 +1,15 @@
+use Rattle.luo_calls.proofs.Replies.{find_replied}
+use Rattle.luo_calls.proofs.KindTurns as kinds
+use Rattle.luo_calls.proofs.turns.registry.find_out.Goals as goal
+
+pub end-requires : goal.end-requires
+end-requires g c =
+    let t = c.find_out-entry.ensures in
+    kinds.registry_can _ _ _ _ _ _ _ _ c.in_ok-slip.ensures.opens c.requires.free _ c.in_ok-slip.ensures.at t.told c.requires.ready t.kept t.start t.run
+
+pub returns-clause-goes : goal.returns-clause-goes
+returns-clause-goes g c =
+    kinds.registry_turned _ _ _ _ c.find_out-entry.new.self _ _ _ c.in_ok-slip.ensures.opens c.requires.free _ c.in_ok-slip.ensures.at c.find_out-entry.ensures.told _ c.end.ensures
+
+pub returns-clause-reply : goal.returns-clause-reply
+returns-clause-reply g c = find_replied _ _ c.args.name c.find_out-entry.ensures.exact c.find_out-entry.ensures.within

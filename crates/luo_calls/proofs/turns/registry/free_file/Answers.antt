@@ -1,0 +1,21 @@
+use Rattle.std.proofs.Common.{refl}
+use Rattle.ho_events.specs.declared.event.Event.TheVariants.{RegFreeFile}
+use Rattle.luo_calls.proofs.Cannot.{registry_cannot}
+use Rattle.luo_calls.proofs.KindTurns as kinds
+use Rattle.luo_calls.proofs.RegistryHalts.{broken_sticks, cannot_free}
+use Rattle.luo_calls.proofs.turns.registry.free_file.Goals as goal
+
+pub returns-then-not-in_use-clause-sticks : goal.returns-then-not-in_use-clause-sticks
+returns-then-not-in_use-clause-sticks g c =
+    broken_sticks _ _ _ c.in_ok-slip.registry _ c.requires.free c.in_ok-slip.ensures.opens (RegFreeFile c.args.file)
+    (registry_cannot c.in_ok-slip.registry (RegFreeFile c.args.file) (cannot_free _ c.args.file _ c.if-not-in_use.true c.in_use.ensures) c.args.at.now _)
+    c.broken_registry.ensures.halt c.broken_registry.ensures.held
+
+pub end-requires : goal.end-requires
+end-requires g c =
+    let t = c.free_file-entry.ensures in
+    kinds.registry_can _ _ _ _ _ _ _ _ c.in_ok-slip.ensures.opens c.requires.free _ c.in_ok-slip.ensures.at t.told c.requires.ready t.kept t.start t.run
+
+pub returns-clause-goes : goal.returns-clause-goes
+returns-clause-goes g c =
+    kinds.registry_turned _ _ _ _ c.free_file-entry.new.self _ _ _ c.in_ok-slip.ensures.opens c.requires.free _ c.in_ok-slip.ensures.at c.free_file-entry.ensures.told _ c.end.ensures

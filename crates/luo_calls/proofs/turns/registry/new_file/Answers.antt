@@ -1,0 +1,11 @@
+use Rattle.luo_calls.proofs.KindTurns as kinds
+use Rattle.luo_calls.proofs.turns.registry.new_file.Goals as goal
+
+pub end-requires : goal.end-requires
+end-requires g c =
+    let t = c.new_file-entry.ensures in
+    kinds.registry_can _ _ _ _ _ _ _ _ c.in_ok-slip.ensures.opens c.requires.free _ c.in_ok-slip.ensures.at t.told c.requires.ready t.kept t.start t.run
+
+pub returns-clause-goes : goal.returns-clause-goes
+returns-clause-goes g c =
+    kinds.registry_turned _ _ _ _ c.new_file-entry.new.self _ _ _ c.in_ok-slip.ensures.opens c.requires.free _ c.in_ok-slip.ensures.at c.new_file-entry.ensures.told _ c.end.ensures

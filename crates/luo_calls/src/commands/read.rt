@@ -1,0 +1,70 @@
+//! The command `read`.
+
+ghost use Rattle.std.specs.Prelude.{◌≡◌, IfOk, IfErr};
+ghost use Rattle.machine_core.specs.Agents.{Agent, no_hands};
+ghost use Rattle.machine_core.specs.Commands.{Comes, Halts};
+ghost use Rattle.machine_core.specs.Turns.{IsReady};
+ghost use Rattle.luo_calls.specs.Doing.{SticksAfter};
+
+use crate::stuck::{Stuck, release};
+use crate::turns::done::end_command;
+use crate::turns::read::read_file;
+use ho_base::name::Name;
+use ho_events::command::Command;
+use ho_events::copies::reply_copy;
+use ho_events::reply::Reply;
+use ho_events::slip::At;
+use machine_core::{Halt, Labels, Reach};
+use std::alloc::Global;
+
+/// Reads a range of the label's file: all its bytes, or `PastEnd` where it ends past the size. It costs the bytes.
+pub fn read<R: Reach>(
+    alloc: Global,
+    reach: &mut R,
+    labels: &Labels,
+    at: &mut At,
+    label: Name,
+    off: u32,
+    len: u32,
+) -> Result<Reply, Halt>
+    requires ready { IsReady at.old (R.shown reach.old) }
+    requires free { (R.shown reach.old).hands ≡ no_hands }
+    ensures comes { IfOk result (λ reply. Comes labels.now.bound labels.now.bound (Command.Read label off len) reply at.old at.new (R.shown reach.old) (R.shown reach.new)) }
+    ensures halts { IfErr result (λ halt. Halts labels.now.bound labels.now.bound halt at.old at.new (R.shown reach.old) (R.shown reach.new)) }
+{
+    match read_turns(alloc, reach, labels, at, label, off, len) {
+        Ok(reply) => Ok(reply),
+        Err(stuck) => Err(release(reach, stuck)),
+    }
+}
+
+/// The turns of a `read`.
+fn read_turns<R: Reach>(
+    alloc: Global,
+    reach: &mut R,
+    labels: &Labels,
+    at: &mut At,
+    label: Name,
+    off: u32,
+    len: u32,
+) -> Result<Reply, Stuck>
+    requires ready { IsReady at.old (R.shown reach.old) }
+    requires free { (R.shown reach.old).hands ≡ no_hands }
+    ensures comes { IfOk result (λ reply. Comes labels.now.bound labels.now.bound (Command.Read label off len) reply at.old at.new (R.shown reach.old) (R.shown reach.new)) }
+    ensures sticks { IfErr result (λ stuck. SticksAfter stuck at.old at.new (R.shown reach.old) (R.shown reach.new)) }
+{
+    let Some(file) = labels.file(label) else {
+        end_command(reach, at, Reply::BadFd)?;
+        return Ok(Reply::BadFd);
+    };
+    let Ok(bytes) = Vec::with_capacity(alloc, len as usize) else {
+        return Err(Stuck {
+            halt: Halt::Memory,
+            held: None,
+        });
+    };
+    let reply = read_file(alloc, reach, at, file, off, len)?;
+    let answer = reply_copy(&reply, Vec::new(alloc), bytes);
+    end_command(reach, at, reply)?;
+    Ok(answer)
+}

@@ -1,3 +1,0 @@
-//! Whole commands: each does a whole sequence of its acts, or stops in the middle.
-
-pub mod create;

@@ -1,8 +1,0 @@
-//! What the commands of an agent do, turn by turn, over any reach.
-#![tactic(auto)]
-
-pub mod commands;
-mod stuck;
-pub mod turns;
-
-pub use stuck::{Stopped, Stuck, empty_handed, release};

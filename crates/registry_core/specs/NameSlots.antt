@@ -1,0 +1,20 @@
+-- The slots of names.
+use Rattle.std.specs.Prelude.{ℕ, List}
+use Rattle.std.specs.Prelude.{Option, None}
+use Rattle.std.specs.Map.{lookup}
+use Rattle.std.specs.Option.{unwrap_or}
+use Rattle.ho_base.specs.declared.numbers.SlotNo.{SlotNo}
+use Rattle.ho_events.specs.Lists.{same_bytes}
+use Rattle.registry_core.specs.declared.parts.Slots.{Slots}
+
+-- a name without a slot
+abbrev pub no_slots : Slots
+no_slots = record { outgoing = None; waiting = None; opened = None }
+
+-- the slots of a name among ready names: none where it isn't ready
+abbrev pub slots_at : List (List ℕ × Slots) → List ℕ → Slots
+slots_at names name = unwrap_or (lookup (same_bytes name) names) no_slots
+
+-- slots with another outgoing one
+abbrev pub with_outgoing : Option SlotNo → Slots → Slots
+with_outgoing slot slots = record slots { outgoing = slot }
