@@ -1,8 +1,0 @@
-use Rattle.std.proofs.Common.{◌≡◌, take}
-use Rattle.std.specs.List.{flat_map}
-use Rattle.phys_frames.specs.Memory.{with_bytes, written}
-use Rattle.kho_records.specs.Sheets.{number}
-use Rattle.kho_records.proofs.writing.frame.put_numbers.Given as goal
-
-abbrev pub invariant-loop-i : goal.invariant-loop-i
-invariant-loop-i l = l.folio ≡ with_bytes l.fn.folio (written l.fn.folio.bytes l.at (flat_map number (take l.i l.numbers)))

@@ -1,5 +1,0 @@
-use Rattle.kho_records.proofs.WrittenRead.{written_are_read}
-use Rattle.kho_records.proofs.writing.laws.law_of_written_records.Goals as goal
-
-pub returns : goal.returns
-returns c = written_are_read
