@@ -22,6 +22,3 @@ pub use profile::valid;
 pub use reader::{OpenError, Reader};
 pub use tree::{FdtPlace, Node, NodeAt, Prop};
 pub use writer::{WriteError, write};
-
-#[cfg(test)]
-mod tests;

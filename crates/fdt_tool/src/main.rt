@@ -3,6 +3,8 @@
 
 mod look;
 mod samples;
+#[cfg(test)]
+mod tests;
 
 use crate::look::show;
 use crate::samples::sample;

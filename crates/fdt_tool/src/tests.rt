@@ -1,4 +1,6 @@
-use super::*;
+//! Blobs byte for byte, and what is refused as one.
+
+use fdt_blob::{FdtPlace, Node, OpenError, Prop, Reader, WriteError, valid, write};
 use std::alloc::{AllocError, Global};
 use std::test::*;
 
