@@ -10,6 +10,8 @@ ghost use Rattle.turns_bench.specs.Agents.{IsReady};
 
 mod agent;
 mod tally;
+#[cfg(test)]
+mod tests;
 
 use crate::agent::{Agent, work};
 use crate::tally::Tally;

@@ -8,8 +8,6 @@ mod logs;
 mod pass;
 mod rows;
 mod rule;
-#[cfg(test)]
-mod tests;
 mod turns;
 
 pub use pass::Pass;

@@ -2,7 +2,7 @@ use Rattle.std.proofs.Common.{sym, ap, ◌∙◌, refl, subst, arith}
 use Rattle.turns_table.specs.Views.{IsMine, role, holds}
 use Rattle.turns_table.specs.Passes.{view}
 use Rattle.turns_table.proofs.Sharing.{near, all_back}
-use Rattle.turns_table.proofs.tests.turns_with_two_objects_do_not_exclude_each_other.Goals as goal
+use Rattle.turns_bench.proofs.tests.turns_with_two_objects_do_not_exclude_each_other.Goals as goal
 
 pub split-requires-clause-spare : goal.split-requires-clause-spare
 split-requires-clause-spare g c = c.in-Ok.ensures.roles 3 (near 3 (omega arith))

@@ -3,7 +3,7 @@ use Rattle.turns_table.specs.declared.rule.Role.TheVariants.{Has}
 use Rattle.turns_table.specs.Views.{role, holds, IsOnly}
 use Rattle.turns_table.specs.Passes.{view}
 use Rattle.turns_table.proofs.Sharing.{free_again}
-use Rattle.turns_table.proofs.tests.turn.Goals as goal
+use Rattle.turns_bench.proofs.tests.turn.Goals as goal
 
 pub end-requires-2-clause-turn : goal.end-requires-2-clause-turn
 end-requires-2-clause-turn g c = let b = c.begin-tally.ensures in let i = c.requires.idle in let of : c.entry-2.result.agent.0 ≡ c.args.agent.0 = ap (λ e. e.agent.0) c.entry-2.ensures in

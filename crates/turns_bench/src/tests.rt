@@ -7,7 +7,6 @@ ghost use Rattle.ho_events.specs.declared.reply.Reply.TheVariants.{Ok as OkReply
 ghost use Rattle.turns_table.specs.Tables.{opening, IsOf};
 ghost use Rattle.turns_table.specs.Passes.{IsIdle};
 
-use crate::{Pass, Turns};
 use ho_base::numbers::{AgentNo, ObjectNo};
 use ho_events::chronicle::{Chronicle, Recorded, last_stamp_of};
 use ho_events::entry::{Entry, Place};
@@ -17,6 +16,7 @@ use std::alloc::Global;
 use std::process::Abort;
 use std::sync::Wait;
 use std::thread;
+use turns_table::{Pass, Turns};
 
 /// An object that keeps its history and no more. It isn't `Drop`, as an object that holds frames.
 struct Tally {
