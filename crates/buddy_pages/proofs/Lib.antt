@@ -13,5 +13,4 @@ pub mod Take
 pub mod Seek
 pub mod Fill
 pub mod Collect
-pub mod Single
 pub mod Taken

@@ -5,7 +5,5 @@ mod blocks;
 mod buddy;
 mod page_map;
 mod passes;
-#[cfg(test)]
-mod tests;
 
 pub use buddy::Buddy;

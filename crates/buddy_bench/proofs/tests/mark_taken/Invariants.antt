@@ -1,6 +1,6 @@
 use Rattle.std.proofs.Common.{◌≡◌, take, length}
 use Rattle.buddy_pages.specs.FreeFrames.{without_runs}
-use Rattle.buddy_pages.proofs.tests.mark_taken.Given as goal
+use Rattle.buddy_bench.proofs.tests.mark_taken.Given as goal
 
 abbrev pub invariant-loop-frame : goal.invariant-loop-frame
 invariant-loop-frame l = record {

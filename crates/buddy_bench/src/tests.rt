@@ -3,7 +3,7 @@
 ghost use Rattle.std.specs.Prelude.{◌≡◌, ◌+◌, ◌<◌, ◌≤◌, All, IfOk, IsTrue, length, vec_capacity, vec_len, []};
 ghost use Rattle.buddy_pages.specs.FreeFrames.{all_but_first, is_free_run, without_runs};
 
-use crate::Buddy;
+use buddy_pages::Buddy;
 use ho_base::numbers::{Order, Pfn};
 use std::alloc::{AllocError, Global};
 use std::test::Fail;

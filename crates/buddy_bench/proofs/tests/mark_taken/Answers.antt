@@ -2,8 +2,8 @@ use Rattle.std.proofs.Common.{◌<◌, false, length, get_or, refl, ap, ◌∙�
 use Rattle.std.proofs.lemmas.List.{take_all, length-set}
 use Rattle.ho_base.specs.declared.numbers.Pfn.{Pfn}
 use Rattle.buddy_pages.specs.FreeFrames.{without_runs}
-use Rattle.buddy_pages.proofs.Single.{without_more, without_none}
-use Rattle.buddy_pages.proofs.tests.mark_taken.Goals as goal
+use Rattle.buddy_bench.proofs.Single.{without_more, without_none}
+use Rattle.buddy_bench.proofs.tests.mark_taken.Goals as goal
 
 pub loop-frame-init : goal.loop-frame-init
 loop-frame-init c = record { same = without_none c.args.free.now.items; long = refl }

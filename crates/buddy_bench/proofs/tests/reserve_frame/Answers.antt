@@ -1,8 +1,8 @@
 use Rattle.std.proofs.Common.{◌≡◌, ◌<◌, Bool, true, false, List, length, get_or, subst, sym, ap, ◌∙◌, rules}
 use Rattle.std.proofs.lemmas.List.{get_or_default}
 use Rattle.buddy_pages.specs.FreeFrames.{is_free_run, with_frames}
-use Rattle.buddy_pages.proofs.Single.{one_run, with_one}
-use Rattle.buddy_pages.proofs.tests.reserve_frame.Goals as goal
+use Rattle.buddy_bench.proofs.Single.{one_run, with_one}
+use Rattle.buddy_bench.proofs.tests.reserve_frame.Goals as goal
 
 pub reserve-requires-clause-run : goal.reserve-requires-clause-run
 reserve-requires-clause-run c =

@@ -1,7 +1,7 @@
 use Rattle.std.proofs.Common.{◌≡◌, ◌<◌, Bool, true, false, List, length, get_or, subst, sym, ap, ◌∙◌, rules}
 use Rattle.buddy_pages.specs.FreeFrames.{none_free, with_frames}
-use Rattle.buddy_pages.proofs.Single.{one_taken, with_one}
-use Rattle.buddy_pages.proofs.tests.give_frame.Goals as goal
+use Rattle.buddy_bench.proofs.Single.{one_taken, with_one}
+use Rattle.buddy_bench.proofs.tests.give_frame.Goals as goal
 
 pub give-requires-clause-taken : goal.give-requires-clause-taken
 give-requires-clause-taken c =

@@ -1,6 +1,6 @@
 use Rattle.std.proofs.Common.{rules}
-use Rattle.buddy_pages.proofs.Single.{last_run, last_within, last_taken}
-use Rattle.buddy_pages.proofs.tests.the_last_run_of_the_largest_machine.Goals as goal
+use Rattle.buddy_bench.proofs.Single.{last_run, last_within, last_taken}
+use Rattle.buddy_bench.proofs.tests.the_last_run_of_the_largest_machine.Goals as goal
 
 pub reserve-requires-clause-run : goal.reserve-requires-clause-run
 reserve-requires-clause-run g c = last_run c.in_ok-buddy.buddy c.in_ok-buddy.ensures

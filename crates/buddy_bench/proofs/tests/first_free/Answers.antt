@@ -1,6 +1,6 @@
 use Rattle.std.proofs.Common.{◌≡◌, Bool, true, false, List, replicate, set, ap, ◌∙◌, rules}
-use Rattle.buddy_pages.proofs.Single.{all_is}
-use Rattle.buddy_pages.proofs.tests.first_free.Goals as goal
+use Rattle.buddy_bench.proofs.Single.{all_is}
+use Rattle.buddy_bench.proofs.tests.first_free.Goals as goal
 
 pub returns : goal.returns
 returns c =

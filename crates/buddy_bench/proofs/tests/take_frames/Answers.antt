@@ -1,5 +1,5 @@
-use Rattle.buddy_pages.proofs.Single.{taken_below}
-use Rattle.buddy_pages.proofs.tests.take_frames.Goals as goal
+use Rattle.buddy_bench.proofs.Single.{taken_below}
+use Rattle.buddy_bench.proofs.tests.take_frames.Goals as goal
 
 pub mark_taken-requires : goal.mark_taken-requires
 mark_taken-requires c =
