@@ -1,7 +1,7 @@
 ghost use Rattle.std.specs.Prelude.{◌≡◌};
 
-use crate::{Folio, Frames};
 use ho_base::numbers::{Order, Pfn};
+use phys_frames::{Folio, Frames};
 
 /// What can move between threads.
 fn moves<T: Send>(value: T) -> T

@@ -9,7 +9,7 @@ use Rattle.ho_base.specs.declared.numbers.Order.{Order}
 use Rattle.phys_frames.specs.Memory.{Memory, FolioValue, IsHome, frames_in, zero_page}
 use Rattle.phys_frames.proofs.Sent.{folio_send}
 use Rattle.phys_frames.proofs.Homes.{fresh, taken_count, taken_beside, given_beside, given_home}
-use Rattle.phys_frames.proofs.tests.two_runs_at_once.Goals as goal
+use Rattle.frames_bench.proofs.tests.two_runs_at_once.Goals as goal
 
 pub take-low-requires-clause-home : goal.take-low-requires-clause-home
 take-low-requires-clause-home g c =
