@@ -4,6 +4,7 @@ mod drip;
 mod files;
 mod kernels;
 mod pools;
+mod scripts;
 
 use crate::run::{Status, run};
 use crate::tests::drip::{DROP_BYTES, Drip};

@@ -6,8 +6,6 @@ mod forms;
 mod labels;
 mod lines;
 mod reader;
-#[cfg(test)]
-mod tests;
 mod words;
 
 ghost use Rattle.std.specs.Prelude.{◌≡◌, ◌<◌, ℕ, Bool, List, length, IfOk, IfErr, Some, is_some, is_none, IsTrue};

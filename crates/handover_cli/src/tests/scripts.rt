@@ -1,9 +1,9 @@
 //! Scripts that are read, and why lines are refused.
 
-use crate::{Reason, ScriptError, read};
 use ho_base::numbers::AgentNo;
 use ho_events::command::Command;
 use ho_events::script::Block;
+use script_text::{Reason, ScriptError, read};
 use std::alloc::{AllocError, Global};
 use std::test::Fail;
 
