@@ -2,6 +2,7 @@
 
 mod drip;
 mod files;
+mod hosts;
 mod kernels;
 mod pools;
 mod scripts;

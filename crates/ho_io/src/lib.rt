@@ -15,6 +15,3 @@ pub use memory::{MemSink, MemSource};
 pub use sink::{Sink, write_all};
 pub use source::{ReadError, Source, read_all};
 pub use system::{FileSink, FileSource, SystemHost};
-
-#[cfg(test)]
-mod tests;

@@ -4,7 +4,7 @@
 ghost use Rattle.std.specs.Prelude.{◌≡◌, ◌≤◌, List, ℕ, Ok, IfOk, OnOk};
 ghost use Rattle.ho_io.specs.Told.{Tells, behind};
 
-use crate::{
+use ho_io::{
     Host, MemHost, MemSink, MemSource, ReadError, Sink, Source, SystemHost, put_all, read_all,
     write_all,
 };
