@@ -2,6 +2,7 @@
 
 mod drip;
 mod files;
+mod history_text;
 mod hosts;
 mod kernels;
 mod pools;

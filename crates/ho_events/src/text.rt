@@ -9,8 +9,6 @@ ghost use Rattle.ho_events.specs.Text.{line_of, line_words, object_word, place_w
 mod event;
 mod forms;
 mod reply;
-#[cfg(test)]
-mod tests;
 mod words;
 
 use crate::entry::{Entry, Place};

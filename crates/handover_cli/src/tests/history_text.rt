@@ -1,11 +1,11 @@
-use crate::entry::{Entry, Place};
-use crate::event::Event;
-use crate::reply::Reply;
-use crate::text::text;
 use ho_base::Items;
 use ho_base::bound::Bound;
 use ho_base::name::Name;
 use ho_base::numbers::{AgentNo, FileNo, Kind, ObjectNo, Order, Pfn, SlotNo, Token};
+use ho_events::entry::{Entry, Place};
+use ho_events::event::Event;
+use ho_events::reply::Reply;
+use ho_events::text::text;
 use std::alloc::{AllocError, Global};
 use std::process::Abort;
 use std::test::Fail;

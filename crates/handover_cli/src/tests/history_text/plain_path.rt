@@ -1,10 +1,10 @@
 use super::{FILE_0, P, POOL, REGISTRY, SLOT_0, add, bytes, name, runs};
-use crate::entry::{Entry, Place};
-use crate::event::Event;
-use crate::reply::Reply;
-use crate::text::text;
 use ho_base::name::Name;
 use ho_base::numbers::{FileNo, Kind, Order, SlotNo, Token};
+use ho_events::entry::{Entry, Place};
+use ho_events::event::Event;
+use ho_events::reply::Reply;
+use ho_events::text::text;
 use std::alloc::{AllocError, Global};
 use std::test::Fail;
 
