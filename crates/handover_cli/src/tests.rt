@@ -7,6 +7,7 @@ mod hosts;
 mod kernels;
 mod pools;
 mod scripts;
+mod values;
 
 use crate::run::{Status, run};
 use crate::tests::drip::{DROP_BYTES, Drip};

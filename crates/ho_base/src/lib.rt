@@ -10,6 +10,3 @@ pub mod numbers;
 pub mod shape;
 
 pub use items::Items;
-
-#[cfg(test)]
-mod tests;

@@ -1,9 +1,11 @@
-use crate::bound::Bound;
-use crate::bytes::{get_u64, put_u64};
-use crate::items::Items;
-use crate::name::Name;
-use crate::numbers::{BadShape, FileNo, Kind, ObjectNo, Order, Pfn, SlotNo};
-use crate::shape::{Area, Shape};
+//! Base values: names, bound records, orders, numbers, shapes and lists.
+
+use ho_base::bound::Bound;
+use ho_base::bytes::{get_u64, put_u64};
+use ho_base::items::Items;
+use ho_base::name::Name;
+use ho_base::numbers::{BadShape, FileNo, Kind, ObjectNo, Order, Pfn, SlotNo};
+use ho_base::shape::{Area, Shape};
 use std::alloc::Global;
 use std::test::Fail;
 
