@@ -14,6 +14,3 @@ pub use bitmaps::chunk_count;
 pub use chain::{Chain, ChainError};
 pub use read::read_chain;
 pub use tracker::Tracker;
-
-#[cfg(test)]
-mod tests;

@@ -1,91 +1,107 @@
 //! The tracker and its chain at worked values.
 
-ghost use Rattle.std.specs.Prelude.{◌≡◌, ◌+◌, ◌<◌, ◌≤◌, All, IfOk, length};
+ghost use Rattle.std.specs.Prelude.{◌≡◌, ◌+◌, ◌*◌, ◌<◌, ◌≤◌, All, length};
 ghost use Rattle.ho_base.specs.declared.limits.TheConstants.{MAX_FRAMES, MIN_FRAMES};
 ghost use Rattle.phys_frames.specs.Memory.{AllHome};
 
-use crate::bitmaps::{ORDERS, below_order};
-use crate::{ChainError, Tracker, chunk_count, read_chain};
+use crate::folios::{give_folios, take_folios};
+use folio_bitmaps::{ChainError, Tracker, chunk_count, read_chain};
+use ho_base::bytes::get_u64;
 use ho_base::numbers::{Order, Pfn};
-use phys_frames::{Folio, Frames};
-use std::alloc::{AllocError, Global};
+use phys_frames::Frames;
+use std::alloc::Global;
 use std::process::Abort;
-use std::test::Fail;
 
-/// Two marks, and the bytes of the bitmaps.
-#[test]
-fn two_marks(rt: HostRuntime) -> Result<(), Fail> {
-    let mut tracker = Tracker::new(rt.alloc(), 64).map_err(|_| "memory")?;
-    tracker.mark(Pfn(9), Order(0));
-    tracker.mark(Pfn(16), Order(2));
-    for (i, byte) in tracker.bytes.iter().enumerate() {
-        let want = if i == 1 {
-            0x02
-        } else if i == 2 * 512 {
-            0x10
-        } else {
-            0
-        };
-        assert_eq!(rt; *byte, want, "at {i}");
-    }
-    assert!(rt; tracker.has(Pfn(9), Order(0)));
-    assert!(rt; !tracker.has(Pfn(9), Order(1)));
-    tracker.unmark(Pfn(9), Order(0));
-    assert!(rt; !tracker.has(Pfn(9), Order(0)));
-    Ok(())
-}
-
-#[test]
-fn bitmaps_are_counted(rt: HostRuntime) {
-    for (frames, bitmaps, chunks) in [
-        (32, 10, 2),
-        (4096, 10, 2),
-        (4097, 11, 2),
-        (8193, 13, 2),
-        (16_384, 14, 2),
-    ] {
-        assert_eq!(rt; below_order(frames, ORDERS), bitmaps, "at {frames}");
-        assert_eq!(rt; chunk_count(frames), chunks, "at {frames}");
-    }
-}
-
-/// Takes so many frames, from frame 1 on.
-fn take_folios(alloc: Global, frames: &mut Frames, count: u32) -> Result<Vec<Folio>, AllocError>
-    requires home { AllHome frames.old }
-    requires count { count < length frames.old.pages }
-    ensures home { frames.new.home ≡ frames.old.home }
-    ensures count { IfOk result (λ v. length v.items ≡ count) }
-    ensures orders { IfOk result (λ v. All (λ f. f.order.0 ≡ 0) v.items) }
-    ensures homes { IfOk result (λ v. All (λ f. f.home ≡ frames.old.home) v.items) }
-{
-    let mut folios = Vec::with_capacity(alloc, count as usize)?;
-    for i in 0..count {
-        folios.push(frames.take(Pfn(1 + i), Order(0))).unwrap();
-    }
-    Ok(folios)
-}
-
-/// Brings folios home.
-fn give_folios(mut folios: Vec<Folio>, frames: &mut Frames)
-    requires { All (λ f. f.home ≡ frames.old.home) folios.items }
-{
-    while let Some(folio) = folios.pop() {
-        frames.give(folio);
-    }
-    folios.destroy_empty();
-}
-
-/// Writes the chain of a tracker and an extra frame into the frames from 1 on.
-fn write(rt: &impl Abort, alloc: Global, frames: &mut Frames, tracker: &Tracker, extra: Pfn)
+/// Writes the chain of a tracker and extra frames into the frames from 1 on.
+fn write(rt: &impl Abort, alloc: Global, frames: &mut Frames, tracker: &Tracker, extra: &[Pfn])
     requires home { AllHome frames.old }
     requires count { length frames.old.pages ≡ tracker.now.frames }
-    requires extra { extra.0 < tracker.now.frames }
+    requires extra { All (λ p. p.0 < tracker.now.frames) extra.now }
+    ensures home { AllHome frames.new }
+    ensures size { length frames.new.pages ≡ length frames.old.pages }
 {
     let count = chunk_count(frames.count());
     assert!(rt; count < frames.count());
     let mut folios = take_folios(alloc, frames, count).expect(rt, "memory");
-    tracker.write_chain([extra].as_slice(), folios.as_mut_slice());
+    tracker.write_chain(extra, folios.as_mut_slice());
     give_folios(folios, frames);
+}
+
+/// The byte of a chunk frame at which byte `j` of bitmap `k` stands.
+fn place_of(k: usize, j: usize) -> usize
+    requires few { (k < 7) × (j < 512) }
+    ensures { result ≡ 48 + 528 * k + j }
+{
+    48 + 528 * k + j
+}
+
+/// Byte `j` of bitmap `t` where frame 9 alone and the four frames from 16 on are marked.
+fn two_marks_byte(t: usize, j: usize) -> u8 {
+    match (t, j) {
+        (0, 1) => 0x02,
+        (2, 0) => 0x10,
+        _ => 0,
+    }
+}
+
+/// Two marks, and the bytes of the bitmaps.
+#[test]
+fn two_marks(rt: HostRuntime) {
+    let alloc = rt.alloc();
+    let mut tracker = Tracker::new(alloc, 64).expect(&rt, "memory");
+    tracker.mark(Pfn(9), Order(0));
+    tracker.mark(Pfn(16), Order(2));
+    let mut frames = Frames::zeroed(alloc, 64).expect(&rt, "memory");
+    write(&rt, alloc, &mut frames, &tracker, [].as_slice());
+    assert!(rt; frames.all_home());
+    for i in 0..2u32 {
+        let page = frames.page(Pfn(1 + i));
+        for k in 0..7usize {
+            let t = 7 * i as usize + k;
+            let order = if t < 10 { t as u64 } else { 0 };
+            assert_eq!(rt; get_u64(page, 40 + 528 * k), order, "at {t}");
+            for j in 0..512usize {
+                assert_eq!(rt; page[place_of(k, j)], two_marks_byte(t, j), "at {t}, {j}");
+            }
+        }
+    }
+    frames.end();
+    assert!(rt; tracker.has(Pfn(9), Order(0)));
+    assert!(rt; !tracker.has(Pfn(9), Order(1)));
+    tracker.unmark(Pfn(9), Order(0));
+    assert!(rt; !tracker.has(Pfn(9), Order(0)));
+}
+
+/// How many bitmaps the chain of so many frames has, by what its chunk frames say.
+fn bitmaps_in_chain(rt: &impl Abort, alloc: Global, n: u32) -> u64
+    requires at_least { MIN_FRAMES ≤ n }
+    requires at_most { n ≤ MAX_FRAMES }
+{
+    let mut frames = Frames::zeroed(alloc, n).expect(rt, "memory");
+    let tracker = Tracker::new(alloc, n).expect(rt, "memory");
+    write(rt, alloc, &mut frames, &tracker, [].as_slice());
+    assert!(rt; frames.all_home());
+    let chunks = chunk_count(n);
+    assert!(rt; chunks < frames.count());
+    let mut count = 0u64;
+    for i in 0..chunks {
+        count = count.saturating_add(get_u64(frames.page(Pfn(1 + i)), 8));
+    }
+    frames.end();
+    count
+}
+
+#[test]
+fn bitmaps_are_counted(rt: HostRuntime) {
+    for frames in [32, 4096, 4097, 8193, 16_384] {
+        assert_eq!(rt; chunk_count(frames), 2, "at {frames}");
+    }
+    let alloc = rt.alloc();
+    assert_eq!(rt; bitmaps_in_chain(&rt, alloc, 32), 10);
+    assert_eq!(rt; bitmaps_in_chain(&rt, alloc, 4096), 10);
+    assert_eq!(rt; bitmaps_in_chain(&rt, alloc, 4097), 11);
+    assert_eq!(rt; bitmaps_in_chain(&rt, alloc, 8193), 13);
+    assert_eq!(rt; bitmaps_in_chain(&rt, alloc, 16_384), 14);
 }
 
 /// Frames with the chain of a tracker of three runs and an extra frame, from frame 1 on.
@@ -99,7 +115,7 @@ fn frames_with_chain(rt: &impl Abort, alloc: Global, n: u32) -> Frames
     tracker.mark(Pfn(9), Order(0));
     tracker.mark(Pfn(16), Order(2));
     tracker.mark(Pfn(n - 1), Order(0));
-    write(rt, alloc, &mut frames, &tracker, Pfn(5));
+    write(rt, alloc, &mut frames, &tracker, [Pfn(5)].as_slice());
     assert!(rt; frames.all_home());
     frames
 }
