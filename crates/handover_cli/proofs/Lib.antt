@@ -4,5 +4,6 @@ pub mod Drips
 pub mod DueTexts
 pub mod Refused
 pub mod Rounds
+pub mod Shown
 pub mod WorkedAlone
 pub mod Written

@@ -1,11 +1,14 @@
 //! Worked runs over a host in memory.
 
+ghost use Rattle.std.specs.Prelude.{◌≡◌, ◌∷◌, [], IfOk, codes, map, string_bytes};
+
 mod drip;
 mod files;
 mod history_text;
 mod hosts;
 mod kernels;
 mod pools;
+mod rows;
 mod scripts;
 mod values;
 
@@ -48,7 +51,9 @@ const HISTORY: &[u8] = b"0 1 1 1 reg new_file = Ok f0\n\
 0 20 1 5 self done = Ok\n";
 
 // The words of a run of `s`.
-fn run_words(alloc: Global) -> Result<Vec<String>, AllocError> {
+fn run_words(alloc: Global) -> Result<Vec<String>, AllocError>
+    ensures { IfOk result (λ words. map string_bytes words.items ≡ codes "run" ∷ codes "s" ∷ []) }
+{
     let mut words = Vec::new(alloc);
     words.push(String::from_str(alloc, "run")?)?;
     words.push(String::from_str(alloc, "s")?)?;
@@ -56,7 +61,10 @@ fn run_words(alloc: Global) -> Result<Vec<String>, AllocError> {
 }
 
 // A host that holds a script as `s`, and whose calls of these numbers fail.
-fn host_of(alloc: Global, script: &[u8], fails: &[(u32, u64)]) -> Result<MemHost, AllocError> {
+fn host_of(alloc: Global, script: &[u8], fails: &[(u32, u64)]) -> Result<MemHost, AllocError>
+    ensures holds { IfOk result (λ host. host.held ≡ (codes "s", script.now) ∷ []) }
+    ensures out { IfOk result (λ host. host.out ≡ []) }
+{
     let mut holds = Vec::new(alloc);
     holds.push((
         String::from_str(alloc, "s")?,
@@ -84,36 +92,6 @@ fn with_line(alloc: Global, number: usize, line: &[u8]) -> Result<Vec<u8>, Alloc
         script.extend_from_slice(line)?;
     }
     Ok(script)
-}
-
-#[test]
-fn runs_the_first_path(rt: HostRuntime) -> Result<(), Fail> {
-    let alloc = rt.alloc();
-    let words = run_words(alloc)?;
-    let mut host = host_of(alloc, SCRIPT, [].as_slice())?;
-    assert_eq!(rt; run(alloc, words.as_slice(), &mut host), Status::Done);
-    assert_eq!(rt; host.out(), HISTORY);
-    Ok(())
-}
-
-#[test]
-fn tells_that_no_frame_is_free(rt: HostRuntime) -> Result<(), Fail> {
-    let alloc = rt.alloc();
-    let words = run_words(alloc)?;
-    let script = with_line(alloc, 2, b"scratch 1 63\n")?;
-    let mut host = host_of(alloc, script.as_slice(), [].as_slice())?;
-    assert_eq!(rt; run(alloc, words.as_slice(), &mut host), Status::Done);
-    let want =
-        b"0 4 1 2 pool take 0 1 = NoFrames\n0 5 1 2 f0 write 0 68656c6c6f [] = NoFrames 1\n0 6 1 2 self done = NoFrames\n";
-    let out = host.out();
-    let mut found = false;
-    for i in 0..out.len() {
-        if out[i..].starts_with(want.as_slice()) {
-            found = true;
-        }
-    }
-    assert!(rt; found);
-    Ok(())
 }
 
 #[test]

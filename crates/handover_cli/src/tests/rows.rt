@@ -1,0 +1,97 @@
+//! Worked histories: the exact text, and that by the definitions it is the text of a legal history.
+
+ghost use Rattle.std.specs.Prelude.{IfOk, IsTrue};
+ghost use Rattle.handover_cli.specs.Shown.{IsHistoryOf};
+
+use crate::run::{Status, run};
+use crate::tests::{HISTORY, SCRIPT, host_of, run_words};
+use std::alloc::{AllocError, Global};
+use std::test::Fail;
+
+// A second file under a token that the session lists already.
+const TOKEN_TWICE: &[u8] = b"machine 64\n\
+scratch 1 8\n\
+round\n\
+agent a\n\
+memfd m 0\n\
+memfd n 0\n\
+create s\n\
+preserve s 7 m\n\
+preserve s 7 n\n";
+
+const TOKEN_TAKEN: &[u8] = b"0 1 1 1 reg new_file = Ok f0\n\
+0 2 1 1 f0 init memfd 0 0 [] = Ok\n\
+0 3 1 1 self done = Ok\n\
+0 4 1 2 reg new_file = Ok f1\n\
+0 5 1 2 f1 init memfd 0 0 [] = Ok\n\
+0 6 1 2 self done = Ok\n\
+0 7 1 3 reg create s = Ok s0\n\
+0 8 1 3 s0 begin s = Ok\n\
+0 9 1 3 self done = Ok\n\
+0 10 1 4 reg find_out s = Ok s0\n\
+0 11 1 4 f0 pin [] = Ok []\n\
+0 12 1 4 s0 add s 7 f0 0 = Ok\n\
+0 13 1 4 self done = Ok\n\
+0 14 1 5 reg find_out s = Ok s0\n\
+0 15 1 5 s0 add s 7 f1 0 = TokenTaken\n\
+0 16 1 5 self done = TokenTaken\n";
+
+// The first path where no frame is free: all but frame 0 are scratch. The file has no bytes then.
+const NO_FRAME: &[u8] = b"machine 64\n\
+scratch 1 63\n\
+round\n\
+agent a\n\
+memfd m 0\n\
+write m 0 68656c6c6f\n\
+create s\n\
+preserve s 7 m\n\
+close s\n";
+
+const NO_FRAMES: &[u8] = b"0 1 1 1 reg new_file = Ok f0\n\
+0 2 1 1 f0 init memfd 0 0 [] = Ok\n\
+0 3 1 1 self done = Ok\n\
+0 4 1 2 pool take 0 1 = NoFrames\n\
+0 5 1 2 f0 write 0 68656c6c6f [] = NoFrames 1\n\
+0 6 1 2 self done = NoFrames\n\
+0 7 1 3 reg create s = Ok s0\n\
+0 8 1 3 s0 begin s = Ok\n\
+0 9 1 3 self done = Ok\n\
+0 10 1 4 reg find_out s = Ok s0\n\
+0 11 1 4 f0 pin [] = Ok []\n\
+0 12 1 4 s0 add s 7 f0 0 = Ok\n\
+0 13 1 4 self done = Ok\n\
+0 14 1 5 reg find_out s = Ok s0\n\
+0 15 1 5 f0 unpin = Kept []\n\
+0 16 1 5 s0 close s = Ok\n\
+0 17 1 5 reg drop_name s = Ok\n\
+0 18 1 5 self done = Ok\n";
+
+// Whether a script, run in memory, has exactly this output. Where it has, the definitions say of this text that it is the
+// text of a legal history of the script.
+#[tactic(auto, using(crate::proofs::Shown::shown))]
+fn has_history(alloc: Global, script: &[u8], history: &[u8]) -> Result<bool, AllocError>
+    ensures { IfOk result (λ has. IsTrue has → IsHistoryOf script.now history.now) }
+{
+    let words = run_words(alloc)?;
+    let mut host = host_of(alloc, script, [].as_slice())?;
+    let status = run(alloc, words.as_slice(), &mut host);
+    Ok(status == Status::Done && host.out() == history)
+}
+
+#[test]
+fn the_first_path_is_legal(rt: HostRuntime) -> Result<(), Fail> {
+    assert!(rt; has_history(rt.alloc(), SCRIPT, HISTORY)?);
+    Ok(())
+}
+
+#[test]
+fn the_first_path_without_a_free_frame_is_legal(rt: HostRuntime) -> Result<(), Fail> {
+    assert!(rt; has_history(rt.alloc(), NO_FRAME, NO_FRAMES)?);
+    Ok(())
+}
+
+#[test]
+fn a_token_twice_is_legal(rt: HostRuntime) -> Result<(), Fail> {
+    assert!(rt; has_history(rt.alloc(), TOKEN_TWICE, TOKEN_TAKEN)?);
+    Ok(())
+}
