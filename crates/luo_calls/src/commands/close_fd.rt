@@ -1,6 +1,6 @@
 //! The command `closefd`.
 
-ghost use Rattle.std.specs.Prelude.{◌≡◌, ◌<◌, ◌≤◌, ◌++◌, ◌∷◌, [], IfOk, IfErr, OnOk, OnErr, length, vec_len};
+ghost use Rattle.std.specs.Prelude.{◌≡◌, ◌<◌, ◌≤◌, ◌++◌, ◌∷◌, [], IfOk, IfErr, OnOk, OnErr, length};
 ghost use Rattle.ho_events.specs.Slips.{reply_runs};
 ghost use Rattle.ho_world.specs.Logs.{end_with};
 ghost use Rattle.phys_frames.specs.Memory.{AreOf, first_frames};
@@ -107,7 +107,7 @@ fn close_label<R: Reach>(
             });
         }
     };
-    match end_label(alloc, reach, at, file, order, reply, &mut given) {
+    match end_label(alloc, reach, at, file, order, &reply, &mut given) {
         Ok(()) => {
             given.destroy_empty();
             Ok(())
@@ -126,17 +126,17 @@ fn end_label<R: Reach>(
     at: &mut At,
     file: FileNo,
     order: Order,
-    reply: Reply,
+    reply: &Reply,
     given: &mut Vec<Folio>,
 ) -> Result<(), Stuck>
     requires ready { IsReady at.old (R.shown reach.old) }
     requires free { (R.shown reach.old).hands ≡ no_hands }
     requires file { file.0 < FILES }
     requires single { order.0 ≡ 0 }
-    requires reply { IsCloseFdReply reply }
-    requires few { length (reply_runs reply) ≤ 1 }
-    requires given { IsGivenUp (R.shown reach.old).anchor.home reply given.old.items }
-    ensures goes { OnOk result (Goes (deeds (after_close_fd file order reply) ++ end_with Reply.Ok ∷ []) at.old at.new (R.shown reach.old) (R.shown reach.new)) }
+    requires reply { IsCloseFdReply reply.now }
+    requires few { length (reply_runs reply.now) ≤ 1 }
+    requires given { IsGivenUp (R.shown reach.old).anchor.home reply.now given.old.items }
+    ensures goes { OnOk result (Goes (deeds (after_close_fd file order reply.now) ++ end_with Reply.Ok ∷ []) at.old at.new (R.shown reach.old) (R.shown reach.new)) }
     ensures given { OnOk result (given.new.items ≡ []) }
     ensures sticks { IfErr result (λ stuck. SticksAfter stuck at.old at.new (R.shown reach.old) (R.shown reach.new)) }
     ensures given_up { OnErr result (AreOf (R.shown reach.old).anchor.home given.new.items) }
@@ -161,7 +161,7 @@ fn end_gone<R: Reach>(
     requires free { (R.shown reach.old).hands ≡ no_hands }
     requires file { file.0 < FILES }
     requires single { order.0 ≡ 0 }
-    requires few { vec_len given.old ≤ 1 }
+    requires few { length given.old.items ≤ 1 }
     requires of_home { AreOf (R.shown reach.old).anchor.home given.old.items }
     ensures goes { OnOk result (Goes (deeds (after_close_fd file order (Reply.Gone (first_frames given.old.items))) ++ end_with Reply.Ok ∷ []) at.old at.new (R.shown reach.old) (R.shown reach.new)) }
     ensures given { OnOk result (given.new.items ≡ []) }
