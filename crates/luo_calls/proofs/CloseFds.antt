@@ -51,7 +51,7 @@ module _ (home : HomeId) (reply : Reply) (runs : List Pfn) (folios : List FolioV
   of_home = both.1
 
   pub few_folios : length (reply_runs reply) ≤ 1 → length folios ≤ 1
-  few_folios few = omega (arith, subst (λ (r : Reply). length (reply_runs r) ≤ 1) lists few, length-map (λ (f : FolioValue). f.first) folios)
+  few_folios few = omega (arith, subst (λ (r : Reply). length (reply_runs r) ≤ 1) lists few, length-map folios (λ (f : FolioValue). f.first))
 
   pub gone_by : {X : Type 0} (f : FileNo) (o : Order) (at at1 : At) (a a1 : Agent) (r : Result X Stuck) → OnOk r (Goes (deeds (after_close_fd f o (Gone (first_frames folios))) ++ end_with Ok ∷ []) at at1 a a1) → OnOk r (Goes (deeds (after_close_fd f o reply) ++ end_with Ok ∷ []) at at1 a a1)
   gone_by f o at at1 a a1 r h = subst (λ (x : Reply). OnOk r (Goes (deeds (after_close_fd f o x) ++ end_with Ok ∷ []) at at1 a a1)) (sym lists) h
