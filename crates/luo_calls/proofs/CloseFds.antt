@@ -1,5 +1,5 @@
 -- The sequences of `closefd`.
-use Rattle.std.proofs.Common.{◌≡◌, ℕ, ◌≤◌, List, [], ◌∷◌, ◌++◌, map, length, refl, sym, ap, subst, ◌∙◌, arith, append_assoc}
+use Rattle.std.proofs.Common.{◌≡◌, ℕ, ◌≤◌, List, [], ◌∷◌, ◌++◌, map, length, refl, sym, ap, subst, ◌∙◌, append_assoc}
 use Rattle.std.specs.Prelude.{None, Some, Result, OnOk}
 use Rattle.std.specs.FinMap as finmap
 use Rattle.std.proofs.lemmas.List.{map-append, length-map}
@@ -26,7 +26,6 @@ use Rattle.machine_core.specs.Turns.{Goes}
 use Rattle.luo_calls.specs.Closing.{deeds, given_back}
 use Rattle.luo_calls.specs.ClosingFds.{ClosesLabel, after_close_fd, read_of}
 use Rattle.luo_calls.specs.Replies.{IsCloseFdReply, IsGivenUp}
-use Rattle.luo_calls.specs.declared.stuck.Stuck.{Stuck}
 use Rattle.luo_calls.proofs.Chains.{then_goes}
 
 -- ---- the turns after the file's
@@ -51,7 +50,9 @@ module _ (home : HomeId) (reply : Reply) (runs : List Pfn) (folios : List FolioV
   of_home = both.1
 
   pub few_folios : length (reply_runs reply) ≤ 1 → length folios ≤ 1
-  few_folios few = omega (arith, subst (λ (r : Reply). length (reply_runs r) ≤ 1) lists few, length-map folios (λ (f : FolioValue). f.first))
+  few_folios few =
+      let counted : length (map (λ (f : FolioValue). f.first) folios) ≤ 1 = subst (λ (r : Reply). length (reply_runs r) ≤ 1) lists few in
+      subst (λ n. n ≤ 1) (length-map folios (λ (f : FolioValue). f.first)) counted
 
   pub gone_by : {X : Type 0} (f : FileNo) (o : Order) (at at1 : At) (a a1 : Agent) (r : Result X Stuck) → OnOk r (Goes (deeds (after_close_fd f o (Gone (first_frames folios))) ++ end_with Ok ∷ []) at at1 a a1) → OnOk r (Goes (deeds (after_close_fd f o reply) ++ end_with Ok ∷ []) at at1 a a1)
   gone_by f o at at1 a a1 r h = subst (λ (x : Reply). OnOk r (Goes (deeds (after_close_fd f o x) ++ end_with Ok ∷ []) at at1 a a1)) (sym lists) h
