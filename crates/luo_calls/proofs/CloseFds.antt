@@ -26,6 +26,7 @@ use Rattle.machine_core.specs.Turns.{Goes}
 use Rattle.luo_calls.specs.Closing.{deeds, given_back}
 use Rattle.luo_calls.specs.ClosingFds.{ClosesLabel, after_close_fd, read_of}
 use Rattle.luo_calls.specs.Replies.{IsCloseFdReply, IsGivenUp}
+use Rattle.luo_calls.specs.declared.stuck.Stuck.{Stuck}
 use Rattle.luo_calls.proofs.Chains.{then_goes}
 
 -- ---- the turns after the file's
