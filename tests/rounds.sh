@@ -5,11 +5,6 @@ need_program
 
 head_lines='machine 1024\nscratch 1 8\nround\nagent a\n'
 
-# The line of each command's end, in order, without the stamps.
-ends() {
-    sed -n 's/^0 [0-9]* \([0-9]* [0-9]*\) self done = /\1 /p' "$work/out"
-}
-
 # A second file under a token that the session lists already.
 printf "${head_lines}memfd m 0\nmemfd n 0\ncreate s\npreserve s 7 m\npreserve s 7 n\n" >"$work/script"
 run_program run script

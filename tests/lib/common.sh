@@ -67,6 +67,11 @@ expect() {
     fi
 }
 
+# The line of each command's end, in order, without the stamps.
+ends() {
+    sed -n 's/^0 [0-9]* \([0-9]* [0-9]*\) self done = /\1 /p' "$work/out"
+}
+
 # The last line tells the counts; the status tells whether anything failed.
 finish() {
     echo "$passed passed, $failed failed"

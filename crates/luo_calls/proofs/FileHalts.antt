@@ -6,8 +6,9 @@ use Rattle.ho_base.specs.declared.numbers.ObjectNo.{ObjectNo}
 use Rattle.ho_base.specs.declared.numbers.Order.{Order}
 use Rattle.ho_base.specs.declared.numbers.Pfn.{Pfn}
 use Rattle.ho_events.specs.declared.event.Event.{Event}
-use Rattle.ho_events.specs.declared.event.Event.TheVariants.{FileInit, FileUnpin}
+use Rattle.ho_events.specs.declared.event.Event.TheVariants.{FileInit, FileCloseFd, FileUnpin}
 use Rattle.ho_events.specs.declared.reply.Reply.{Reply}
+use Rattle.ho_events.specs.declared.reply.Reply.TheVariants.{Gone}
 use Rattle.ho_events.specs.declared.slip.At.{At}
 use Rattle.ho_base.specs.Objects.{file_no}
 use Rattle.ho_base.specs.declared.numbers.FileNo.{FileNo}
@@ -26,6 +27,7 @@ use Rattle.machine_core.specs.declared.object.Object.TheVariants.{File}
 use Rattle.machine_core.specs.Objects.{start_of, known_of}
 use Rattle.machine_core.specs.Agents.{Agent, begun}
 use Rattle.machine_core.specs.Turns.{CannotCome, IsShut, IsOther, IsUnfit, file_then}
+use Rattle.luo_calls.specs.ClosingFds.{read_of}
 use Rattle.luo_calls.specs.Opened.{Opens}
 use Rattle.luo_calls.specs.declared.stuck.Stuck.{Stuck}
 use Rattle.luo_calls.specs.Memfds.{IsMemfd, IsOtherFile}
@@ -49,6 +51,15 @@ no_unpin (Some f) h reply = rw h refl
 pub cannot_unpin : (x : Option (Option FileState)) (b : Bool) → b ≡ false → MatchOption x ⊥ (λ s. b ≡ is_pinned s) → MatchOption x (Unit {0}) (λ s. (reply : Reply) → file_step s FileUnpin reply ≡ None)
 cannot_unpin None b e h = tt
 cannot_unpin (Some s) b e h = no_unpin s (sym h ∙ e)
+
+-- a file that isn't open isn't closed
+no_close_fd : (s : Option FileState) → is_opened s ≡ false → (reply : Reply) → file_step s FileCloseFd reply ≡ None
+no_close_fd None h reply = refl
+no_close_fd (Some f) h reply = rw h refl
+
+pub cannot_close_fd : (x : Option (Option FileState)) (b : Bool) → b ≡ false → MatchOption x ⊥ (λ s. b ≡ is_opened s) → MatchOption x (Unit {0}) (λ s. (reply : Reply) → file_step s FileCloseFd reply ≡ None)
+cannot_close_fd None b e h = tt
+cannot_close_fd (Some s) b e h = no_close_fd s (sym h ∙ e)
 
 -- the state to which a file's history leads
 state_of : (v : FileValue) (P : Option FileState → Type 0) → MatchOption (file_from v.start v.history) ⊥ P → P (file_then (start_of (File v)) v.history)
@@ -87,6 +98,11 @@ sort_at (Some f) facts o e h =
 pub file_claimed : (a : Agent) (hands : ℕ → Option Known) (file : FileNo) (v : FileValue) (facts : Option Facts) (o : Order) → hands (file_no file.0) ≡ Some (known_of (File v)) → IsMemfd facts o → MatchOption (file_from v.start v.history) ⊥ (λ s. facts ≡ option_map facts_of s) → AreClaimed (begun a) hands (IsFile file Memfd o ∷ [])
 file_claimed a hands file v facts o held memfd h =
     (subst (λ k. HoldsOf k (IsFile file Memfd o)) (sym held) (sort_at _ facts o (state_of v (λ s. facts ≡ option_map facts_of s) h) memfd), tt)
+
+-- where the end of a label's hold reads it
+pub read_claimed : (a : Agent) (hands : ℕ → Option Known) (file : FileNo) (o : Order) (reply : Reply) → AreClaimed (begun a) hands (IsFile file Memfd o ∷ []) → AreClaimed (begun a) hands (read_of file o reply)
+read_claimed a hands file o (Gone runs) h = h
+read_claimed a hands file o reply h = tt
 
 -- the same by the file's state alone
 pub memfd_claimed : (a : Agent) (hands : ℕ → Option Known) (file : FileNo) (v : FileValue) (o : Order) → hands (file_no file.0) ≡ Some (known_of (File v)) → MatchOption (file_from v.start v.history) ⊥ (λ s. IsMemfd (option_map facts_of s) o) → AreClaimed (begun a) hands (IsFile file Memfd o ∷ [])

@@ -24,3 +24,4 @@ pub mod Memfds
 pub mod WriteCommands
 pub mod Preserves
 pub mod Closes
+pub mod CloseFds

@@ -1,5 +1,6 @@
 pub mod Came
 pub mod Closing
+pub mod ClosingFds
 pub mod Doing
 pub mod Memfds
 pub mod Opened

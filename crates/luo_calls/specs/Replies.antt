@@ -2,7 +2,7 @@
 use Rattle.std.specs.Prelude.{◌≡◌, ◌<◌, List, []}
 use Rattle.ho_base.specs.declared.limits.TheConstants.{FILES, OUT_SLOTS}
 use Rattle.ho_events.specs.declared.reply.Reply.{Reply}
-use Rattle.ho_events.specs.declared.reply.Reply.TheVariants.{OkFile, OkSlot, OkRuns, KeptRuns, Gone, FilesFull, NameTaken, SessionsFull, NoSession, NotFinished, AlreadyPinned}
+use Rattle.ho_events.specs.declared.reply.Reply.TheVariants.{OkFile, OkSlot, OkRuns, Kept, KeptRuns, Gone, FilesFull, NameTaken, SessionsFull, NoSession, NotFinished, AlreadyPinned}
 use Rattle.phys_frames.specs.Homes.{HomeId}
 use Rattle.phys_frames.specs.Memory.{FolioValue}
 use Rattle.phys_frames.specs.Memory.{AreOf}
@@ -40,8 +40,16 @@ IsUnpinReply (KeptRuns runs) = Unit {0}
 IsUnpinReply (Gone runs) = Unit {0}
 IsUnpinReply reply = ⊥
 
--- the folios that a file gives up when a pin ends: none where it is kept, and those of its runs where it is gone
+-- that a session still holds a file, or all runs of one that is gone
+abbrev pub IsCloseFdReply : Reply → Type 0
+IsCloseFdReply Kept = Unit {0}
+IsCloseFdReply (Gone runs) = Unit {0}
+IsCloseFdReply reply = ⊥
+
+-- the folios that a file gives up when a label's hold or a pin ends: none where it is kept, and those of its runs where
+-- it is gone
 abbrev pub IsGivenUp : HomeId → Reply → List FolioValue → Type 0
+IsGivenUp home Kept folios = folios ≡ []
 IsGivenUp home (KeptRuns runs) folios = folios ≡ []
 IsGivenUp home (Gone runs) folios = (first_frames folios ≡ runs) × AreOf home folios
 IsGivenUp home reply folios = ⊥

@@ -1,6 +1,7 @@
 //! Whole commands: each does a whole sequence of its acts, or stops in the middle.
 
 pub mod close;
+pub mod close_fd;
 mod close_files;
 pub mod command;
 pub mod create;

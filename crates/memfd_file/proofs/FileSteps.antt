@@ -25,9 +25,9 @@ use Rattle.ho_events.specs.declared.slip.At.{At}
 use Rattle.ho_events.specs.declared.entry.Place.{Place as Spot}
 use Rattle.ho_events.specs.declared.entry.Entry.{Entry}
 use Rattle.ho_events.specs.declared.event.Event.{Event}
-use Rattle.ho_events.specs.declared.event.Event.TheVariants.{FileInit, FileWrite, FilePin, FileUnpin}
+use Rattle.ho_events.specs.declared.event.Event.TheVariants.{FileInit, FileWrite, FileCloseFd, FilePin, FileUnpin}
 use Rattle.ho_events.specs.declared.reply.Reply.{Reply}
-use Rattle.ho_events.specs.declared.reply.Reply.TheVariants.{Ok, OkRuns, KeptRuns, Gone, NoFramesOf, SizeFrozen, NotFinished, AlreadyPinned}
+use Rattle.ho_events.specs.declared.reply.Reply.TheVariants.{Ok, OkRuns, Kept, KeptRuns, Gone, NoFramesOf, SizeFrozen, NotFinished, AlreadyPinned}
 use Rattle.ho_events.proofs.Runs.{run_push}
 use Rattle.memfd_file.proofs.Pages.{overwritten_length, written_page, page_front, page_length, page_of_none}
 use Rattle.memfd_file.specs.Files.{page_of, folio_of, with_page_home}
@@ -231,6 +231,13 @@ unpin_kept f runs pin held is = rw (pin, held, is, same_list (runs_of f)) refl
 
 pub unpin_gone : (f : FileState) → (runs : List Pfn) → f.pin ≡ true → (f.opened || f.hold) ≡ false → firsts runs ≡ runs_of f → file_step (Some f) FileUnpin (Gone runs) ≡ Some None
 unpin_gone f runs pin held is = rw (pin, held, is, same_list (runs_of f)) refl
+
+-- the end of a label's hold
+pub close_kept : (f : FileState) → f.opened ≡ true → (f.pin || f.hold) ≡ true → file_step (Some f) FileCloseFd Kept ≡ Some (Some (record f { opened = false }))
+close_kept f opened held = rw (opened, held) refl
+
+pub close_gone : (f : FileState) → (runs : List Pfn) → f.opened ≡ true → (f.pin || f.hold) ≡ false → firsts runs ≡ runs_of f → file_step (Some f) FileCloseFd (Gone runs) ≡ Some None
+close_gone f runs opened held is = rw (opened, held, is, same_list (runs_of f)) refl
 
 -- a new memfd has no bytes
 pub new_shown : content_shown (record { folio = None; size = 0; position = 0; opened = true; pin = false; hold = false }) ≡ new_file Memfd 0 0 []

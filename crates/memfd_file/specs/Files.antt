@@ -9,7 +9,7 @@ use Rattle.ho_events.specs.Lists.{firsts}
 use Rattle.ho_events.specs.File.{FileState, grows_frozen, touched_holes, runs_of}
 use Rattle.ho_events.specs.Contents.{Content, Plain, OfFile}
 use Rattle.ho_events.specs.declared.reply.Reply.{Reply}
-use Rattle.ho_events.specs.declared.reply.Reply.TheVariants.{Ok, OkBytes, PastEnd, OkRuns, KeptRuns, Gone, NoFramesOf, SizeFrozen, NotFinished, AlreadyPinned}
+use Rattle.ho_events.specs.declared.reply.Reply.TheVariants.{Ok, OkBytes, PastEnd, OkRuns, Kept, KeptRuns, Gone, NoFramesOf, SizeFrozen, NotFinished, AlreadyPinned}
 use Rattle.memfd_file.specs.FileValues.{FileValue, FileIs}
 use Rattle.memfd_file.specs.declared.facts.Facts.{Facts}
 
@@ -92,6 +92,13 @@ abbrev pub IsUnpinAnswer : FileState → Reply → Type 0
 IsUnpinAnswer f (KeptRuns runs) = IsTrue (f.opened || f.hold) × (firsts runs ≡ runs_of f)
 IsUnpinAnswer f (Gone runs) = ((f.opened || f.hold) ≡ false) × (firsts runs ≡ runs_of f)
 IsUnpinAnswer f reply = ⊥
+
+-- what the end of a label's hold is answered: kept where an outgoing or an incoming session has the file, and else
+-- gone with all runs by index
+abbrev pub IsCloseFdAnswer : FileState → Reply → Type 0
+IsCloseFdAnswer f Kept = IsTrue (f.pin || f.hold)
+IsCloseFdAnswer f (Gone runs) = ((f.pin || f.hold) ≡ false) × (firsts runs ≡ runs_of f)
+IsCloseFdAnswer f reply = ⊥
 
 -- the folios that a file of at most one page gives up: all, with its bytes, where it is gone
 abbrev pub given_up : HomeId → FileState → Reply → List FolioValue

@@ -9,12 +9,13 @@ ghost use Rattle.ho_events.specs.File.{touched_holes};
 ghost use Rattle.ho_events.specs.Contents.{file_content};
 ghost use Rattle.ho_events.specs.Places.{object_at};
 ghost use Rattle.ho_events.specs.Slips.{entry_at, reply_runs};
-ghost use Rattle.ho_events.specs.declared.event.Event.TheVariants.{FileInit, FileWrite, FileRead, FilePin, FileUnpin};
+ghost use Rattle.ho_events.specs.declared.event.Event.TheVariants.{FileInit, FileWrite, FileRead, FileCloseFd, FilePin, FileUnpin};
 ghost use Rattle.ho_events.specs.declared.reply.Reply.TheVariants.{Ok};
-ghost use Rattle.memfd_file.specs.Files.{FileHas, facts_of, content_told, run_at, is_opened, is_pinned, fills_used, fills_left, write_answer, read_answer, IsPinAnswer, IsUnpinAnswer, given_up, with_file_home};
+ghost use Rattle.memfd_file.specs.Files.{FileHas, facts_of, content_told, run_at, is_opened, is_pinned, fills_used, fills_left, write_answer, read_answer, IsPinAnswer, IsUnpinAnswer, IsCloseFdAnswer, given_up, with_file_home};
 ghost use Rattle.phys_frames.specs.Memory.{AreFills, AreOf, first_frames};
 ghost use Rattle.memfd_file.specs.FileValues.{FileIs};
 
+use crate::closing::close_fd;
 use crate::content::{Content, place, unpin};
 use crate::facts::Facts;
 use ho_base::Items;
@@ -343,6 +344,39 @@ impl FileObject {
             self.number,
             at,
             Event::FileUnpin,
+            reply,
+            copy,
+            value,
+        )
+    }
+
+    /// Ends the label's hold. Where an outgoing or an incoming session has the file, it is kept; else it is absent
+    /// afterwards, all its runs are told, and its folios are put at the end of the caller's.
+    pub fn close_fd(&mut self, slip: Slip, given: &mut Vec<Folio>) -> Turned<Reply>
+        requires opened { FileHas self.old (λ f. f.opened ≡ true) }
+        requires given { vec_len given.old < vec_capacity given.old }
+        requires slip_numbers { 1 ≤ slip.room.reply_numbers }
+        requires room { 0 < self.old.room }
+        requires agent_stamp { slip.at.last < 2 ^ 63 }
+        requires object_stamp { last_stamp self.old.history < 2 ^ 63 }
+        ensures exact { FileHas self.old (λ f. IsCloseFdAnswer f result.value) }
+        ensures few { length (reply_runs result.value) ≤ 1 }
+        ensures given { FileHas self.old (λ f. given.new.items ≡ given.old.items ++ given_up self.old.home f result.value) }
+        ensures told { result.entry ≡ entry_at slip.at (last_stamp self.old.history) (object_at self.old.number) FileCloseFd result.value }
+        ensures kept { self.new.history ≡ self.old.history ++ result.entry ∷ [] }
+        ensures number { self.new.number ≡ self.old.number }
+        ensures start { self.new.start ≡ self.old.start }
+        ensures home { self.new.home ≡ self.old.home }
+        ensures room { self.new.room + 1 ≡ self.old.room }
+        ensures run { IsTrue (is_some (file_from self.new.start self.new.history)) }
+    {
+        let (at, own, copy, value) = slip.open();
+        let reply = close_fd(&mut self.content, own.reply_runs, given);
+        append_turn(
+            &mut self.history,
+            self.number,
+            at,
+            Event::FileCloseFd,
             reply,
             copy,
             value,

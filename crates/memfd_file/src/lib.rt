@@ -2,6 +2,7 @@
 //! [`PAGE_BYTES`](ho_base::limits::PAGE_BYTES) bytes, so it has at most one run: a page, at index 0.
 #![tactic(auto)]
 
+mod closing;
 mod content;
 mod facts;
 mod file;

@@ -76,7 +76,7 @@ fn unmark_any<R: Reach>(
 }
 
 /// Gives folios back, where there are some. The list is empty afterwards; where the turn isn't taken, it is as it was.
-fn give_any<R: Reach>(
+pub fn give_any<R: Reach>(
     alloc: Global,
     reach: &mut R,
     at: &mut At,

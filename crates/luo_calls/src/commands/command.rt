@@ -7,6 +7,7 @@ ghost use Rattle.machine_core.specs.Turns.{IsReady};
 ghost use Rattle.luo_calls.specs.Came.{CameTo};
 
 use crate::commands::close::close;
+use crate::commands::close_fd::close_fd;
 use crate::commands::create::create;
 use crate::commands::memfd::memfd;
 use crate::commands::preserve::preserve;
@@ -56,6 +57,10 @@ pub fn do_command<R: Reach>(
         ) {
             Ok(reply) => Outcome::Done(reply, at.last),
             Err(halt) => Outcome::Halted(Vec::new(alloc), halt),
+        },
+        Command::CloseFd(label) => match close_fd(alloc, reach, labels, &mut at, *label) {
+            Ok(reply) => Outcome::Done(reply, at.last),
+            Err((folios, halt)) => Outcome::Halted(folios, halt),
         },
         Command::Create(name) => match create(alloc, reach, &mut at, *name) {
             Ok(reply) => Outcome::Done(reply, at.last),

@@ -1,4 +1,4 @@
-//! The turns on a file that make it, pin it and end the pin.
+//! The turns on a file that make it, pin it, and end the pin or the label's hold.
 
 ghost use Rattle.std.specs.Prelude.{◌≡◌, ◌≤◌, ◌<◌, ◌∷◌, [], IfOk, OnOk, OnErr, IfErr, None, Some, MatchOption, length, vec_len, vec_capacity};
 ghost use Rattle.ho_base.specs.Objects.{file_no};
@@ -8,8 +8,9 @@ ghost use Rattle.ho_world.specs.Acts.{IsFile};
 ghost use Rattle.ho_world.specs.Logs.{deed_at};
 ghost use Rattle.machine_core.specs.Agents.{Agent};
 ghost use Rattle.machine_core.specs.Turns.{IsReady, Goes};
+ghost use Rattle.luo_calls.specs.ClosingFds.{read_of};
 ghost use Rattle.luo_calls.specs.Memfds.{IsMemfd, IsOtherFile};
-ghost use Rattle.luo_calls.specs.Replies.{IsPinReply, IsUnpinReply, IsGivenUp};
+ghost use Rattle.luo_calls.specs.Replies.{IsPinReply, IsUnpinReply, IsCloseFdReply, IsGivenUp};
 ghost use Rattle.luo_calls.specs.Stuck.{Sticks};
 
 use crate::stuck::Stuck;
@@ -142,6 +143,44 @@ pub fn unpin<R: Reach>(
         return Err(broken_file(number, object));
     };
     let Turned { entry, value } = object.unpin(slip, given);
+    at.last = entry.stamp;
+    reach.end(number, Object::File(object), Some(entry));
+    Ok((order, value))
+}
+
+/// Ends a label's hold on a memfd. It answers the file's order and the reply; where nothing holds the file any more, that
+/// lists all runs, and its folios are put into the empty list.
+#[tactic(auto, using(crate::proofs::FileReplies::close_fd_replied))]
+pub fn close_fd<R: Reach>(
+    alloc: Global,
+    reach: &mut R,
+    at: &mut At,
+    file: FileNo,
+    given: &mut Vec<Folio>,
+) -> Result<(Order, Reply), Stuck>
+    requires ready { IsReady at.old (R.shown reach.old) }
+    requires file { file.0 < FILES }
+    requires free { (R.shown reach.old).hands (file_no file.0) ≡ None }
+    requires empty { given.old.items ≡ [] }
+    requires room { vec_len given.old < vec_capacity given.old }
+    ensures reply { IfOk result (λ r. IsCloseFdReply r.1) }
+    ensures few { IfOk result (λ r. length (reply_runs r.1) ≤ 1) }
+    ensures single { IfOk result (λ r. r.0.0 ≡ 0) }
+    ensures given { IfOk result (λ r. IsGivenUp (R.shown reach.old).anchor.home r.1 given.new.items) }
+    ensures goes { IfOk result (λ r. Goes (deed_at (file_no file.0) (read_of file r.0 r.1) Event.FileCloseFd r.1 ∷ []) at.old at.new (R.shown reach.old) (R.shown reach.new)) }
+    ensures sticks { IfErr result (λ stuck. Sticks at.old stuck (R.shown reach.old) (R.shown reach.new)) }
+    ensures same_at { OnErr result (at.new ≡ at.old) }
+    ensures err_given { OnErr result (given.new.items ≡ []) }
+{
+    let (slip, mut object) = open_file(alloc, reach, *at, file, Listed::in_reply(1, 0))?;
+    let number = ObjectNo::of_file(file);
+    if !object.is_open() {
+        return Err(broken_file(number, object));
+    }
+    let Some(order) = memfd_order(object.facts()) else {
+        return Err(broken_file(number, object));
+    };
+    let Turned { entry, value } = object.close_fd(slip, given);
     at.last = entry.stamp;
     reach.end(number, Object::File(object), Some(entry));
     Ok((order, value))

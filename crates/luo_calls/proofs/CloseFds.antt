@@ -1,0 +1,99 @@
+-- The sequences of `closefd`.
+use Rattle.std.proofs.Common.{◌≡◌, ℕ, ◌≤◌, List, [], ◌∷◌, ◌++◌, map, length, refl, sym, ap, subst, ◌∙◌, append_assoc}
+use Rattle.std.specs.Prelude.{None, Some, Result, OnOk}
+use Rattle.std.specs.FinMap as finmap
+use Rattle.std.proofs.lemmas.List.{map-append, length-map}
+use Rattle.ho_base.specs.Objects.{file_no, registry_no}
+use Rattle.ho_base.specs.declared.numbers.FileNo.{FileNo}
+use Rattle.ho_base.specs.declared.numbers.Kind.TheVariants.{Memfd}
+use Rattle.ho_base.specs.declared.numbers.Order.{Order}
+use Rattle.ho_base.specs.declared.numbers.Pfn.{Pfn}
+use Rattle.ho_events.specs.declared.command.Command.TheVariants as command
+use Rattle.ho_events.specs.declared.event.Event.TheVariants.{FileCloseFd, RegFreeFile}
+use Rattle.ho_events.specs.declared.reply.Reply.{Reply}
+use Rattle.ho_events.specs.declared.reply.Reply.TheVariants.{Ok, BadFd, Kept, Gone}
+use Rattle.ho_events.specs.declared.slip.At.{At}
+use Rattle.ho_events.specs.Slips.{reply_runs}
+use Rattle.ho_world.specs.Acts.{IsFile, file, registry}
+use Rattle.ho_world.specs.Logs.{deed_at, deed_of, end_with}
+use Rattle.ho_world.specs.Sequences.{Labels, NoFile, CloseFdCame, on_label, closed_fd}
+use Rattle.ho_world.specs.Sequences.Files.{LabelKept, LabelGone}
+use Rattle.phys_frames.specs.Homes.{HomeId}
+use Rattle.phys_frames.specs.Memory.{AreOf, FolioValue, first_frames}
+use Rattle.machine_core.specs.Agents.{Agent}
+use Rattle.machine_core.specs.Commands.{Comes}
+use Rattle.machine_core.specs.Turns.{Goes}
+use Rattle.luo_calls.specs.Closing.{deeds, given_back}
+use Rattle.luo_calls.specs.ClosingFds.{ClosesLabel, after_close_fd, read_of}
+use Rattle.luo_calls.specs.Replies.{IsCloseFdReply, IsGivenUp}
+use Rattle.luo_calls.specs.declared.stuck.Stuck.{Stuck}
+use Rattle.luo_calls.proofs.Chains.{then_goes}
+
+-- ---- the turns after the file's
+
+-- the folios go back, and the number, and the command ends
+pub gone_ends : (f : FileNo) (o : Order) (folios : List FolioValue) (at at1 at2 at3 : At) (a a1 a2 a3 : Agent) → Goes (deeds (given_back o (first_frames folios))) at at1 a a1 → Goes (deed_at registry_no [] (RegFreeFile f) Ok ∷ []) at1 at2 a1 a2 → Goes (end_with Ok ∷ []) at2 at3 a2 a3 → Goes (deeds (after_close_fd f o (Gone (first_frames folios))) ++ end_with Ok ∷ []) at at3 a a3
+gone_ends f o folios at at1 at2 at3 a a1 a2 a3 g h k =
+    subst (λ ds. Goes ds at at3 a a3)
+    (sym (ap (λ ds. ds ++ end_with Ok ∷ []) (map-append deed_of (given_back o (first_frames folios)) (registry (RegFreeFile f) Ok ∷ []))
+    ∙ append_assoc (deeds (given_back o (first_frames folios))) (deeds (registry (RegFreeFile f) Ok ∷ [])) (end_with Ok ∷ [])))
+    (then_goes _ _ at at1 at3 a a1 a3 g (then_goes _ _ at1 at2 at3 a1 a2 a3 h k))
+
+-- the reply lists the frames of the folios that the file gave up
+module _ (home : HomeId) (reply : Reply) (runs : List Pfn) (folios : List FolioValue) (is : reply ≡ Gone runs) (given : IsGivenUp home reply folios) where
+  both : IsGivenUp home (Gone runs) folios
+  both = subst (λ (r : Reply). IsGivenUp home r folios) is given
+
+  lists : reply ≡ Gone (first_frames folios)
+  lists = is ∙ ap (λ rs. Gone rs) (sym both.0)
+
+  pub of_home : AreOf home folios
+  of_home = both.1
+
+  pub few_folios : length (reply_runs reply) ≤ 1 → length folios ≤ 1
+  few_folios few =
+      let counted : length (map (λ (f : FolioValue). f.first) folios) ≤ 1 = subst (λ (r : Reply). length (reply_runs r) ≤ 1) lists few in
+      subst (λ n. n ≤ 1) (length-map folios (λ (f : FolioValue). f.first)) counted
+
+  pub gone_by : {X : Type 0} (f : FileNo) (o : Order) (at at1 : At) (a a1 : Agent) (r : Result X Stuck) → OnOk r (Goes (deeds (after_close_fd f o (Gone (first_frames folios))) ++ end_with Ok ∷ []) at at1 a a1) → OnOk r (Goes (deeds (after_close_fd f o reply) ++ end_with Ok ∷ []) at at1 a a1)
+  gone_by f o at at1 a a1 r h = subst (λ (x : Reply). OnOk r (Goes (deeds (after_close_fd f o x) ++ end_with Ok ∷ []) at at1 a a1)) (sym lists) h
+
+-- ---- the whole command
+
+pub closes : (f : FileNo) (o : Order) (reply : Reply) (at at1 at2 : At) (a a1 a2 : Agent) → IsCloseFdReply reply → Goes (deed_at (file_no f.0) (read_of f o reply) FileCloseFd reply ∷ []) at at1 a a1 → Goes (deeds (after_close_fd f o reply) ++ end_with Ok ∷ []) at1 at2 a1 a2 → ClosesLabel f at at2 a a2
+closes f o Kept at at1 at2 a a1 a2 is g h = record {
+  outcome = LabelKept;
+  acts = file f [] FileCloseFd Kept ∷ [];
+  is_one = refl;
+  goes = then_goes _ _ at at1 at2 a a1 a2 g h;
+}
+closes f o (Gone runs) at at1 at2 a a1 a2 is g h = record {
+  outcome = LabelGone Memfd o runs;
+  acts = file f (IsFile f Memfd o ∷ []) FileCloseFd (Gone runs) ∷ after_close_fd f o (Gone runs);
+  is_one = refl;
+  goes = then_goes _ _ at at1 at2 a a1 a2 g h;
+}
+closes f o reply at at1 at2 a a1 a2 is g h = absurd is
+
+module _ (labels labels' : Labels) (label : List ℕ) (at at1 : At) (a a1 : Agent) where
+  -- no file has the label
+  pub no_file : labels' ≡ labels → None ≡ finmap.get labels label → Goes (end_with BadFd ∷ []) at at1 a a1 → Comes labels labels' (command.CloseFd label) BadFd at at1 a a1
+  no_file same none h = record {
+    outcome = NoFile;
+    sequence = record { acts = []; reply = BadFd };
+    is_one = ap (λ f. on_label f closed_fd NoFile) (sym none);
+    reply_is = refl;
+    goes = h;
+    labels_are = same;
+  }
+
+  -- the label ended
+  pub ended : (f : FileNo) → labels' ≡ finmap.remove labels label → Some f ≡ finmap.get labels label → ClosesLabel f at at1 a a1 → Comes labels labels' (command.CloseFd label) Ok at at1 a a1
+  ended f removed found h = record {
+    outcome = CloseFdCame h.outcome;
+    sequence = record { acts = h.acts; reply = Ok };
+    is_one = ap (λ o. on_label o closed_fd (CloseFdCame h.outcome)) (sym found) ∙ h.is_one;
+    reply_is = refl;
+    goes = h.goes;
+    labels_are = removed;
+  }

@@ -1,0 +1,21 @@
+use Rattle.luo_calls.proofs.Chains.{ready_after}
+use Rattle.luo_calls.proofs.CloseFds.{closes}
+use Rattle.luo_calls.proofs.Closes.{no_memory}
+use Rattle.luo_calls.proofs.Nested.{sticks_first, sticks_later}
+use Rattle.luo_calls.proofs.commands.close_fd.close_label.Goals as goal
+
+pub returns-in_default-clause-stopped : goal.returns-in_default-clause-stopped
+returns-in_default-clause-stopped g c = no_memory _ _ _ c.empty_handed.ensures.stuck
+
+pub returns-in-Err-clause-stopped : goal.returns-in-Err-clause-stopped
+returns-in-Err-clause-stopped g c = sticks_first _ _ _ _ _ c.in-Err.ensures.same_at c.in-Err.ensures.sticks
+
+pub end_label-requires-clause-ready : goal.end_label-requires-clause-ready
+end_label-requires-clause-ready g c = ready_after _ _ _ _ _ c.requires.ready c.in-Ok-close_fd.ensures.goes
+
+pub returns-in-Ok-end_label-clause-closes : goal.returns-in-Ok-end_label-clause-closes
+returns-in-Ok-end_label-clause-closes g c =
+    closes c.args.file c.in-Ok-close_fd.closed.0 c.in-Ok-close_fd.closed.1 _ _ _ _ _ _ c.in-Ok-close_fd.ensures.reply c.in-Ok-close_fd.ensures.goes c.in-Ok-end_label.ensures.goes
+
+pub returns-in-Err-end_label-clause-stopped : goal.returns-in-Err-end_label-clause-stopped
+returns-in-Err-end_label-clause-stopped g c = sticks_later _ _ _ _ _ _ _ _ c.in-Ok-close_fd.ensures.goes c.in-Err-end_label.ensures.sticks

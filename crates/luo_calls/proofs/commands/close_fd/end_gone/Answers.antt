@@ -1,0 +1,27 @@
+use Rattle.std.proofs.lemmas.Result.{err_from_is_err_and}
+use Rattle.luo_calls.proofs.Chains.{ready_after, then_goes}
+use Rattle.luo_calls.proofs.CloseFds.{gone_ends}
+use Rattle.luo_calls.proofs.Nested.{sticks_first, sticks_next}
+use Rattle.luo_calls.proofs.commands.close_fd.end_gone.Goals as goal
+
+pub returns-in_err-give_any-clause-sticks : goal.returns-in_err-give_any-clause-sticks
+returns-in_err-give_any-clause-sticks g c =
+    let p = err_from_is_err_and c.from_residual.result c.from_residual.ensures.1 in rw (p.1, p.2)
+    (sticks_first _ _ _ _ _ c.in_err-give_any.ensures.same_at c.in_err-give_any.ensures.sticks)
+
+pub free_file-requires-clause-ready : goal.free_file-requires-clause-ready
+free_file-requires-clause-ready g c = ready_after _ _ _ _ _ c.requires.ready c.in_ok-give_any.ensures.goes
+
+pub end_command-requires : goal.end_command-requires
+end_command-requires g c = record {
+  ready = ready_after _ _ _ _ _ (ready_after _ _ _ _ _ c.requires.ready c.in_ok-give_any.ensures.goes) c.in_ok-free_file.ensures.goes;
+}
+
+pub returns-in_err-end_command-clause-sticks : goal.returns-in_err-end_command-clause-sticks
+returns-in_err-end_command-clause-sticks g c =
+    let p = err_from_is_err_and c.from_residual-in_err-end_command.result c.from_residual-in_err-end_command.ensures.1 in rw (p.1, p.2)
+    (sticks_next _ _ _ _ _ _ _ _ (then_goes _ _ _ _ _ _ _ _ c.in_ok-give_any.ensures.goes c.in_ok-free_file.ensures.goes) c.in_err-end_command.ensures.same_at c.in_err-end_command.ensures.sticks)
+
+pub returns-clause-goes : goal.returns-clause-goes
+returns-clause-goes g c =
+    gone_ends c.args.file c.args.order c.args.given.now.items _ _ _ _ _ _ _ _ c.in_ok-give_any.ensures.goes c.in_ok-free_file.ensures.goes c.in_ok-end_command.ensures.goes

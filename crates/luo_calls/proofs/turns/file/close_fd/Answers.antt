@@ -1,0 +1,30 @@
+use Rattle.std.proofs.Common.{refl, [], ◌∷◌, inl, inr, sym, subst, ap}
+use Rattle.ho_events.specs.declared.event.Event.TheVariants.{FileCloseFd}
+use Rattle.luo_calls.specs.ClosingFds.{read_of}
+use Rattle.luo_calls.proofs.Cannot.{file_cannot}
+use Rattle.luo_calls.proofs.FileHalts.{broken_file_sticks, cannot_close_fd, is_other, file_claimed, read_claimed}
+use Rattle.luo_calls.proofs.FileReplies.{closed_says}
+use Rattle.luo_calls.proofs.KindTurns as kinds
+use Rattle.luo_calls.proofs.Steps.{has}
+use Rattle.luo_calls.proofs.turns.file.close_fd.Goals as goal
+
+pub returns-then-not-is_open-clause-sticks : goal.returns-then-not-is_open-clause-sticks
+returns-then-not-is_open-clause-sticks g c =
+    broken_file_sticks _ _ _ _ _ c.in_ok-slip.object _ c.of_file-number.ensures c.requires.free c.in_ok-slip.ensures.opens
+    (inl (FileCloseFd, file_cannot c.in_ok-slip.object FileCloseFd (cannot_close_fd _ _ c.if-not-is_open.true c.is_open.ensures) c.args.at.now _))
+    c.broken_file.ensures.halt c.broken_file.ensures.held
+
+pub end-requires : goal.end-requires
+end-requires g c =
+    let t = c.close_fd-entry.ensures in
+    kinds.file_can_at _ _ _ _ _ _ [] _ _ _ c.in_ok-slip.ensures.opens c.requires.free _ c.in_ok-slip.ensures.at t.told _ c.of_file-number.ensures c.requires.ready t.kept t.number t.start t.home t.run
+
+pub returns-clause-given : goal.returns-clause-given
+returns-clause-given g c =
+    closed_says _ _ _ _ _ _ c.in_ok-slip.ensures.opens.found.machine c.requires.empty c.close_fd-entry.ensures.exact c.close_fd-entry.ensures.given
+
+pub returns-clause-goes : goal.returns-clause-goes
+returns-clause-goes g c =
+    kinds.file_turned_at _ _ _ _ _ c.close_fd-entry.new.self (read_of c.args.file c.in-Some.order c.close_fd-entry.result.value) _ _ _ c.in_ok-slip.ensures.opens c.requires.free _ c.in_ok-slip.ensures.at c.close_fd-entry.ensures.told _ c.of_file-number.ensures _
+    (read_claimed (g.R.Reach.shown c.args.reach.now) (g.R.Reach.shown c.open_file.new.reach).hands c.args.file c.in-Some.order c.close_fd-entry.result.value
+    (file_claimed (g.R.Reach.shown c.args.reach.now) (g.R.Reach.shown c.open_file.new.reach).hands c.args.file c.in_ok-slip.object _ c.in-Some.order (has _ _ _ _ _ c.in_ok-slip.ensures.opens) c.in-Some.ensures c.facts.ensures.exact)) c.end.ensures
