@@ -1,3 +1,4 @@
+use Rattle.luo_calls.proofs.WriteCommands.{over_whole}
 use Rattle.std.proofs.Common.{◌≡◌, ℕ, ◌<◌, Bool, true, false, nat_eq, length, refl, ap, sym, subst, ◌∙◌, arith}
 use Rattle.ho_events.specs.File.{touched_holes}
 use Rattle.memfd_file.specs.Files.{FileHas}
@@ -9,12 +10,13 @@ use Rattle.luo_calls.proofs.turns.write.write_file.Goals as goal
 use Rattle.luo_calls.proofs.turns.write.write_file.Goals.{then-holes-eq0, else-holes-eq0}
 
 pub returns-in-Err-clause-stopped : goal.returns-in-Err-clause-stopped
-returns-in-Err-clause-stopped g c = nested.sticks_first _ _ _ _ _ refl c.in-Err.ensures.sticks
+returns-in-Err-clause-stopped g c =
+    nested.sticks_first _ (over_whole c.args.file c.args.off c.args.bytes.now) _ _ _ _ _ refl (c.in-Err.ensures.sticks c.args.off c.args.bytes.now)
 
 pub returns-in-Err-write_plain-clause-stopped : goal.returns-in-Err-write_plain-clause-stopped
 returns-in-Err-write_plain-clause-stopped g c =
     nested.outer_sticks _ _ _ (file_no c.args.file.0) _ (g.R.Reach.shown c.open_write.new.reach) _ _ c.in-Ok.ensures.opens (ap (λ f. f (file_no c.args.file.0)) c.requires.free)
-    (nested.sticks_first _ _ _ _ _ c.in-Err-write_plain.ensures.same_at c.in-Err-write_plain.ensures.sticks)
+    (nested.sticks_first _ (over_whole c.args.file c.args.off c.args.bytes.now) _ _ _ _ _ c.in-Err-write_plain.ensures.same_at c.in-Err-write_plain.ensures.sticks)
 
 pub returns-else-is_frozen-clause-goes : goal.returns-else-is_frozen-clause-goes
 returns-else-is_frozen-clause-goes g c =
