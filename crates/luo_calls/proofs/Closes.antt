@@ -140,11 +140,10 @@ closed_both fs gs at at1 at2 a a1 a2 h k = record {
 }
 
 -- a file that was unpinned and is kept, without a run: one of the ways in which its part may come out
-plain_part : Kept → Part
-plain_part f = part_of f single [] false
+abbrev pub plain_part : Kept → Part
+plain_part f = record { number = f.1; handle = f.2; kind = Memfd; order = single; runs = []; last = None; gone = false }
 
 plain_listed : (files : List Kept) → map part_reference (map plain_part files) ≡ map kept_reference files
-unfolding plain_part part_of
 plain_listed [] = refl
 plain_listed (f ∷ files) = ap (λ rs. kept_reference f ∷ rs) (plain_listed files)
 
@@ -156,7 +155,6 @@ plain_unpin f = deed_at (file_no f.1.0) (IsFile f.1 Memfd single ∷ []) FileUnp
 
 -- the deeds of the part of a file that wasn't unpinned yet
 pub plain_whole : (f : Kept) → ArePartsOf (f ∷ []) (plain_unpin f)
-unfolding plain_part part_of
 plain_whole f = record { parts = plain_part f ∷ []; listed = refl; deeds_are = refl }
 
 -- the deeds of its part, by what its unpin was answered
@@ -192,9 +190,9 @@ plain_parts files = record { parts = map plain_part files; listed = plain_listed
 pub parts_around : (files : List Kept) (i : ℕ) (d : Kept) (at at1 : At) (a a1 : Agent) → i < length files → (c : HasClosed (take i files) at at1 a a1) → (ds : List Deed) → ArePartsOf (get_or files i d ∷ []) ds → ArePartsOf files (deeds (flat_map close_part c.parts) ++ (ds ++ plain_deeds (drop (i + 1) files)))
 parts_around files i d at at1 a a1 less c ds k =
     subst (λ (fs : List Kept). ArePartsOf fs (deeds (flat_map close_part c.parts) ++ (ds ++ plain_deeds (drop (i + 1) files)))) split
-    (parts_both (take i files) (get_or files i d ∷ drop (i + 1) files) _ _
+    (parts_both (take i files) (get_or files i d ∷ drop (i + 1) files) (deeds (flat_map close_part c.parts)) (ds ++ plain_deeds (drop (i + 1) files))
     (record { parts = c.parts; listed = c.listed; deeds_are = refl })
-    (parts_both (get_or files i d ∷ []) (drop (i + 1) files) _ _ k (plain_parts (drop (i + 1) files))))
+    (parts_both (get_or files i d ∷ []) (drop (i + 1) files) ds (plain_deeds (drop (i + 1) files)) k (plain_parts (drop (i + 1) files))))
   where
     split : take i files ++ get_or files i d ∷ drop (i + 1) files ≡ files
     split =
@@ -363,6 +361,17 @@ after_unmark f o runs =
 
 pub after_give : (f : FileNo) (o : Order) (runs : List Pfn) → deeds (after_unpin f o (Gone runs)) ≡ (deeds (unmarked o runs) ++ deeds (given_back o runs)) ++ deed_at registry_no [] (RegFreeFile f) Ok ∷ []
 after_give f o runs = after_unmark f o runs ∙ sym (append_assoc (deeds (unmarked o runs)) (deeds (given_back o runs)) (deed_at registry_no [] (RegFreeFile f) Ok ∷ []))
+
+-- the same runs
+pub same_given_sticks : (o : Order) (rs runs : List Pfn) (at : At) (stuck : Stuck) (a a1 : Agent) → rs ≡ runs → Sticks at (turn_of (deeds (given_back o rs))) stuck a a1 → Sticks at (turn_of (deeds (given_back o runs))) stuck a a1
+same_given_sticks o rs runs at stuck a a1 e s = subst (λ xs. Sticks at (turn_of (deeds (given_back o xs))) stuck a a1) e s
+
+pub same_given_goes : (o : Order) (rs runs : List Pfn) (at at1 : At) (a a1 : Agent) → rs ≡ runs → Goes (deeds (given_back o rs)) at at1 a a1 → Goes (deeds (given_back o runs)) at at1 a a1
+same_given_goes o rs runs at at1 a a1 e g = subst (λ xs. Goes (deeds (given_back o xs)) at at1 a a1) e g
+
+-- no slot has the name
+abbrev pub no_slot : List ℕ → List Deed
+no_slot name = deed_at registry_no [] (RegFindOut name) NoSession ∷ []
 
 -- a turn on runs, where there are some
 pub unmark_turn : (o : Order) (runs : List Pfn) (at : At) (stuck : Stuck) (a a1 : Agent) → 0 < length runs → Sticks at (turn pool_no (PoolUnmark o runs)) stuck a a1 → Sticks at (turn_of (deeds (unmarked o runs))) stuck a a1

@@ -8,7 +8,7 @@ use Rattle.ho_events.specs.declared.reply.Reply.{Reply}
 use Rattle.ho_events.specs.declared.reply.Reply.TheVariants.{Ok, OkSlot, NameTaken, SessionsFull}
 use Rattle.ho_events.specs.declared.slip.At.{At}
 use Rattle.ho_world.specs.Acts.{registry, session}
-use Rattle.ho_world.specs.Logs.{deed_at, end_with}
+use Rattle.ho_world.specs.Logs.{Deed, deed_at, end_with}
 use Rattle.ho_world.specs.Sequences.{Labels, CreateCame}
 use Rattle.ho_world.specs.Sequences.Sessions.{Created, CreateRefused, create_acts}
 use Rattle.machine_core.specs.Agents.{Agent}
@@ -47,6 +47,13 @@ module _ (labels : Labels) (name : List ℕ) (at at1 at2 : At) (a a1 a2 : Agent)
     goes = then_goes _ _ at at2 at3 a a2 a3 (then_goes _ _ at at1 at2 a a1 a2 h k) l;
     labels_are = refl;
   }
+
+-- the turn on the registry, and the one on the slot
+abbrev pub asked : List ℕ → Reply → List Deed
+asked name x = deed_at registry_no [] (RegCreate name) x ∷ []
+
+abbrev pub begun_out : SlotNo → List ℕ → List Deed
+begun_out slot name = deed_at (session_no slot.0) [] (SessionBegin name) Ok ∷ []
 
 -- the deeds of its whole sequences
 pub taken_whole : (name : List ℕ) → AreWhole (create_acts name) (deed_at registry_no [] (RegCreate name) NameTaken ∷ end_with NameTaken ∷ [])

@@ -11,7 +11,7 @@ use Rattle.ho_events.specs.declared.reply.Reply.{Reply}
 use Rattle.ho_events.specs.declared.reply.Reply.TheVariants.{Ok, OkFile, FilesFull}
 use Rattle.ho_events.specs.declared.slip.At.{At}
 use Rattle.ho_world.specs.Acts.{registry, file}
-use Rattle.ho_world.specs.Logs.{deed_at, end_with}
+use Rattle.ho_world.specs.Logs.{Deed, deed_at, end_with}
 use Rattle.ho_world.specs.Sequences.{Labels, MemfdCame}
 use Rattle.ho_world.specs.Sequences.Files.{NoNumber, Made, memfd_acts}
 use Rattle.machine_core.specs.Agents.{Agent}
@@ -42,6 +42,13 @@ module _ (labels labels' : Labels) (label : List ℕ) (order : Order) (at at1 at
     goes = then_goes _ _ at at2 at3 a a2 a3 (then_goes _ _ at at1 at2 a a1 a2 h k) l;
     labels_are = bound;
   }
+
+-- the turn on the registry, and the one on the file
+abbrev pub asked : Reply → List Deed
+asked x = deed_at registry_no [] RegNewFile x ∷ []
+
+abbrev pub made_file : FileNo → Order → List Deed
+made_file f order = deed_at (file_no f.0) [] (FileInit Memfd order 0 []) Ok ∷ []
 
 -- the deeds of its whole sequences
 pub full_whole : (order : Order) → AreWhole (memfd_acts order) (deed_at registry_no [] RegNewFile FilesFull ∷ end_with FilesFull ∷ [])

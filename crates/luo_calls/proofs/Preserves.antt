@@ -152,6 +152,10 @@ pinned_acts name t f s o runs = record {
   reply = Ok;
 }
 
+-- no slot has the name
+abbrev pub no_slot : List ℕ → List Deed
+no_slot name = deed_at registry_no [] (RegFindOut name) NoSession ∷ []
+
 -- the deeds of its whole sequences, once the slot was found
 module _ (name : List ℕ) (token : Token) (f : FileNo) where
   pub no_name_whole : AreWhole (preserve_acts name token f) (deed_at registry_no [] (RegFindOut name) NoSession ∷ end_with NoSession ∷ [])

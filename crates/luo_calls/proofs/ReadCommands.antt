@@ -11,7 +11,7 @@ use Rattle.ho_events.specs.declared.reply.Reply.TheVariants.{BadFd}
 use Rattle.ho_events.specs.declared.slip.At.{At}
 use Rattle.ho_world.specs.Entries.{is_ok}
 use Rattle.ho_world.specs.Acts.{file}
-use Rattle.ho_world.specs.Logs.{deed_at, end_with}
+use Rattle.ho_world.specs.Logs.{Deed, deed_at, end_with}
 use Rattle.ho_world.specs.Sequences.{Labels, NoFile, ReadCame, on_label, answered, command_acts}
 use Rattle.machine_core.specs.Agents.{Agent}
 use Rattle.machine_core.specs.Commands.{Comes}
@@ -23,6 +23,10 @@ use Rattle.luo_calls.proofs.Chains.{then_goes}
 kept : (ok : Bool) (labels : Labels) → labels ≡ cond ok labels labels
 kept true labels = refl
 kept false labels = refl
+
+-- the turn on the file
+abbrev pub read_so : FileNo → ℕ → ℕ → Reply → List Deed
+read_so f off len x = deed_at (file_no f.0) [] (FileRead off len) x ∷ []
 
 module _ (labels : Labels) (label : List ℕ) (off len : ℕ) where
   -- no file has the label

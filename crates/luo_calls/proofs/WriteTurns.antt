@@ -136,6 +136,9 @@ pub filled_goes : (file : FileNo) (o : Order) (off holes : ℕ) (bytes : List �
 filled_goes file o off holes bytes runs at at1 at2 b b1 b2 count h k =
     then_goes _ _ at at1 at2 b b1 b2 (subst (λ m. Goes (deed_at pool_no (IsFile file Memfd o ∷ []) (PoolTake o m) (Got runs.value) ∷ []) at at1 b b1) (sym count) h) k
 
+pub taken_so : (file : FileNo) (o : Order) (holes : ℕ) (runs : List Pfn) (at at1 : At) (b b1 : Agent) → length runs ≡ holes → Goes (deed_at pool_no (IsFile file Memfd o ∷ []) (PoolTake o holes) (Got runs) ∷ []) at at1 b b1 → Goes (deed_at pool_no (IsFile file Memfd o ∷ []) (PoolTake o (length runs)) (Got runs) ∷ []) at at1 b b1
+taken_so file o holes runs at at1 b b1 count h = subst (λ m. Goes (deed_at pool_no (IsFile file Memfd o ∷ []) (PoolTake o m) (Got runs) ∷ []) at at1 b b1) (sym count) h
+
 pub filled_comes : (file : FileNo) (o : Order) (off holes : ℕ) (bytes : List ℕ) (runs : Snapshot (Items Pfn)) (at at1 at2 : At) (b b1 b2 : Agent) (r : Result Wrote Stopped) → length runs.value ≡ holes → Goes (deed_at pool_no (IsFile file Memfd o ∷ []) (PoolTake o holes) (Got runs.value) ∷ []) at at1 b b1 → IfOk r (λ w. w ≡ Filled o runs) → OnOk r (Goes (deed_at (file_no file.0) (IsFile file Memfd o ∷ []) (FileWrite off bytes runs.value) Ok ∷ []) at1 at2 b1 b2) → IfOk r (λ w. Goes (write_deeds file off bytes w) at at2 b b2)
 filled_comes file o off holes bytes runs at at1 at2 b b1 b2 (result.Ok w) count h is k =
     subst (λ (x : Wrote). Goes (write_deeds file off bytes x) at at2 b b2) (sym is) (filled_goes file o off holes bytes runs at at1 at2 b b1 b2 count h k)

@@ -1,7 +1,8 @@
+use Rattle.luo_calls.specs.Closing.{deeds, session_ends}
+use Rattle.ho_world.specs.Sequences.Parts.{close_part, close_acts}
+use Rattle.std.specs.List.{flat_map}
 use Rattle.luo_calls.proofs.Nested.{holds_goes, sticks_before, sticks_later, within_goes}
 use Rattle.luo_calls.proofs.Closes.{closed_whole, kept_claimed, kept_claims, parts_whole, ends_closed, doubled_sticks, under_after}
-use Rattle.luo_calls.specs.Closing.{session_ends}
-use Rattle.ho_world.specs.Sequences.Parts.{close_acts}
 use Rattle.std.proofs.Common.{sym, subst, ◌∙◌}
 use Rattle.ho_base.specs.Objects.{session_no}
 use Rattle.luo_calls.specs.declared.stuck.Stuck.{Stuck}
@@ -33,5 +34,5 @@ returns-in-Err-end_out-clause-stopped g c =
     let a = g.R.Reach.shown c.args.reach.now in let n = session_no c.args.slot.0 in
     let a1 = g.R.Reach.shown c.close_files.new.reach in let closed = c.in_default.ensures.closed in
     subst (λ (s : Stuck). SticksAfter (AreRest (close_acts c.args.name) (slot_found c.args.name c.args.slot)) s c.args.at.now c.end_out.new.at (without n a) (g.R.Reach.shown c.end_out.new.reach)) (sym c.empty_handed-in-Err-end_out.ensures.stuck)
-    (sticks_later _ (closed_whole c.args.name c.args.slot c.files-files.result.now _ _ a a1 (sym c.are_all_different.ensures ∙ c.if-not-are_all_different.false) closed) _ _ _ _ (without n a) (without n a1) _ (within_goes _ _ _ n a _ closed.goes)
+    (sticks_later (deeds (flat_map close_part closed.parts)) (closed_whole c.args.name c.args.slot c.files-files.result.now _ _ a a1 (sym c.are_all_different.ensures ∙ c.if-not-are_all_different.false) closed) _ _ _ _ (without n a) (without n a1) _ (within_goes _ _ _ n a _ closed.goes)
     (c.in-Err-end_out.ensures.sticks (kept_claims c.args.slot c.files-files.result.now) (kept_claimed a1 a1.hands c.args.slot c.args.held c.files-files.result.now (holds_goes _ _ _ n a a1 _ c.requires.holds closed.goes).held c.files-files.ensures.content)))

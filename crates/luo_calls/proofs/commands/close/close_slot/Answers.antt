@@ -1,5 +1,5 @@
+use Rattle.luo_calls.proofs.Closes.{other_deeds, other_whole, outer_closes_if, outer_stops_if}
 use Rattle.luo_calls.proofs.Sticking.{sticks_any}
-use Rattle.luo_calls.proofs.Closes.{other_whole, outer_closes_if, outer_stops_if}
 use Rattle.ho_world.specs.Sequences.Parts.{close_acts}
 use Rattle.std.proofs.Common.{refl, ap, sym, subst}
 use Rattle.ho_base.specs.Objects.{session_no}
@@ -11,7 +11,7 @@ use Rattle.luo_calls.proofs.commands.close.close_slot.Goals as goal
 pub returns-in-Err-clause-stopped : goal.returns-in-Err-clause-stopped
 returns-in-Err-clause-stopped g c =
     subst (λ (s : Stuck). SticksAfter (AreRest (close_acts c.args.name) (slot_found c.args.name c.args.slot)) s c.args.at.now c.args.at.now (g.R.Reach.shown c.args.reach.now) (g.R.Reach.shown c.open_session.new.reach)) (sym c.empty_handed.ensures.stuck)
-    (sticks_first _ (other_whole c.args.name c.args.slot) _ _ _ _ _ refl (sticks_any _ _ _ _ _ c.in-Err.ensures.sticks))
+    (sticks_first (other_deeds c.args.name c.args.slot) (other_whole c.args.name c.args.slot) _ _ _ _ _ refl (sticks_any _ _ _ _ _ c.in-Err.ensures.sticks))
 
 pub returns-then-is_out-clause-closes : goal.returns-then-is_out-clause-closes
 returns-then-is_out-clause-closes g c =

@@ -1,5 +1,5 @@
+use Rattle.luo_calls.proofs.Closes.{same_given_goes, same_given_sticks, after_give, after_unmark, gone_goes}
 use Rattle.luo_calls.proofs.Sticking.{sticks_more}
-use Rattle.luo_calls.proofs.Closes.{after_give, after_unmark, gone_goes}
 use Rattle.luo_calls.specs.Stuck.{Sticks, turn_of}
 use Rattle.luo_calls.specs.Closing.{deeds, given_back, unmarked}
 use Rattle.machine_core.specs.Turns.{Goes}
@@ -29,7 +29,7 @@ pub returns-in_err-free_file-clause-sticks : goal.returns-in_err-free_file-claus
 returns-in_err-free_file-clause-sticks g c =
     let p = err_from_is_err_and c.from_residual-in_err-free_file.result c.from_residual-in_err-free_file.ensures.1 in rw (p.1, p.2)
     (sticks_next (deeds (unmarked c.args.order c.args.runs.now) ++ deeds (given_back c.args.order c.args.runs.now)) (deed_at registry_no [] (RegFreeFile c.args.file) Ok ∷ []) (sym (after_give c.args.file c.args.order c.args.runs.now)) _ _ _ _ _ _ _
-    (then_goes _ _ _ _ _ _ _ _ c.in_ok-unmark_any.ensures.goes (subst (λ rs. Goes (deeds (given_back c.args.order rs)) _ _ _ _) c.requires.given.0 c.in_ok-give_any.ensures.goes)) c.in_err-free_file.ensures.same_at c.in_err-free_file.ensures.sticks)
+    (then_goes _ _ _ _ _ _ _ _ c.in_ok-unmark_any.ensures.goes (same_given_goes c.args.order _ _ _ _ _ _ c.requires.given.0 c.in_ok-give_any.ensures.goes)) c.in_err-free_file.ensures.same_at c.in_err-free_file.ensures.sticks)
 
 pub returns-clause-goes : goal.returns-clause-goes
 returns-clause-goes g c =
@@ -40,4 +40,4 @@ pub returns-in_err-give_any-clause-sticks : goal.returns-in_err-give_any-clause-
 returns-in_err-give_any-clause-sticks g c =
     let p = err_from_is_err_and c.from_residual-in_err-give_any.result c.from_residual-in_err-give_any.ensures.1 in rw (p.1, p.2)
     (sticks_next (deeds (unmarked c.args.order c.args.runs.now)) (deeds (given_back c.args.order c.args.runs.now) ++ deed_at registry_no [] (RegFreeFile c.args.file) Ok ∷ []) (sym (after_unmark c.args.file c.args.order c.args.runs.now)) _ _ _ _ _ _ _ c.in_ok-unmark_any.ensures.goes c.in_err-give_any.ensures.same_at
-    (sticks_more _ (deeds (given_back c.args.order c.args.runs.now)) _ _ _ _ (subst (λ rs. Sticks _ (turn_of (deeds (given_back c.args.order rs))) _ _ _) c.requires.given.0 c.in_err-give_any.ensures.sticks)))
+    (sticks_more _ (deeds (given_back c.args.order c.args.runs.now)) _ _ _ _ (same_given_sticks c.args.order _ _ _ _ _ _ c.requires.given.0 c.in_err-give_any.ensures.sticks)))

@@ -1,8 +1,10 @@
+use Rattle.luo_calls.specs.Preserved.{added}
+use Rattle.ho_world.specs.Logs.{deed_at, end_with}
+use Rattle.std.proofs.Common.{[], ◌∷◌, ◌++◌, refl, sym, subst, IsTrue}
 use Rattle.luo_calls.proofs.Preserves.{lost_whole, lost_sticks, mark_sticks, admitted_answer, lost_goes, pin_loss, pin_refused, pinned_goes}
 use Rattle.ho_events.specs.declared.reply.Reply.TheVariants.{NotFinished}
 use Rattle.ho_events.specs.declared.event.Event.TheVariants.{FilePin}
 use Rattle.ho_base.specs.Objects.{file_no, session_no}
-use Rattle.std.proofs.Common.{[], ◌∷◌, refl, sym, subst, IsTrue}
 use Rattle.std.specs.Prelude.{Some}
 use Rattle.ho_events.specs.declared.reply.Reply.{Reply}
 use Rattle.ho_world.specs.Sequences.Preserving.{is_pin_refusal}
@@ -17,7 +19,7 @@ use Rattle.luo_calls.proofs.commands.preserve.pin_and_add.Goals as goal
 pub returns-in-Err-clause-sticks : goal.returns-in-Err-clause-sticks
 returns-in-Err-clause-sticks g c =
     let a = g.R.Reach.shown c.args.reach.now in let n = session_no c.args.slot.0 in
-    nested.sticks_first _ (lost_whole c.args.name c.args.token c.args.file c.args.slot NotFinished refl) c.args.at.now _ _ (without n a) _ c.in-Err.ensures.same_at
+    nested.sticks_first (deed_at (file_no c.args.file.0) [] (FilePin []) NotFinished ∷ (added c.args.slot c.args.name c.args.token c.args.file NotFinished ++ end_with NotFinished ∷ [])) (lost_whole c.args.name c.args.token c.args.file c.args.slot NotFinished refl) c.args.at.now _ _ (without n a) _ c.in-Err.ensures.same_at
     (subst (λ (s : Stuck). Sticks c.args.at.now (turn (file_no c.args.file.0) (FilePin [])) s (without n a) (g.R.Reach.shown c.under.new.reach)) (sym c.under.ensures.stuck)
     (nested.under_at c.args.at.now _ _ n a _ _ _ c.of_session-number.ensures c.in-Err.ensures.sticks c.requires.holds c.under.ensures.ended))
 

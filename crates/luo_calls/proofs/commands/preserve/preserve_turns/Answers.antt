@@ -1,7 +1,7 @@
 use Rattle.luo_calls.specs.Preserved.{preserve_deeds, reply_to}
 use Rattle.luo_calls.specs.Doing.{slot_found}
 use Rattle.ho_world.specs.Logs.{Deed, deed_at, end_with}
-use Rattle.ho_events.specs.declared.reply.Reply.TheVariants.{NoSession}
+use Rattle.ho_events.specs.declared.reply.Reply.TheVariants.{BadFd, NoSession}
 use Rattle.std.proofs.Common.{[], ◌∷◌, ◌++◌, sym, ◌∙◌}
 use Rattle.std.proofs.lemmas.Result.{err_from_is_err_and}
 use Rattle.luo_calls.proofs.Chains.{ready_after, then_goes}
@@ -12,7 +12,7 @@ use Rattle.luo_calls.proofs.commands.preserve.preserve_turns.Goals as goal
 pub returns-in_err-end_command-clause-sticks : goal.returns-in_err-end_command-clause-sticks
 returns-in_err-end_command-clause-sticks g c =
     let p = err_from_is_err_and c.from_residual.result c.from_residual.ensures.1 in rw (p.1, p.2)
-    (nested.sticks_first _ (preserves.no_file_whole c.args.labels.now.bound c.args.name c.args.token c.args.label (sym c.file.ensures.found ∙ c.in_default.is)) _ _ _ _ _ c.in_err-end_command.ensures.same_at c.in_err-end_command.ensures.sticks)
+    (nested.sticks_first (end_with BadFd ∷ []) (preserves.no_file_whole c.args.labels.now.bound c.args.name c.args.token c.args.label (sym c.file.ensures.found ∙ c.in_default.is)) _ _ _ _ _ c.in_err-end_command.ensures.same_at c.in_err-end_command.ensures.sticks)
 
 pub returns-in_default-clause-comes : goal.returns-in_default-clause-comes
 returns-in_default-clause-comes g c =
@@ -21,7 +21,7 @@ returns-in_default-clause-comes g c =
 pub returns-in_err-slot-clause-sticks : goal.returns-in_err-slot-clause-sticks
 returns-in_err-slot-clause-sticks g c =
     let p = err_from_is_err_and c.from_residual-in_err-slot.result c.from_residual-in_err-slot.ensures.1 in rw (p.1, p.2)
-    (nested.sticks_first _ (preserves.of_file c.args.labels.now.bound c.args.name c.args.token c.args.label c.in-Some.file (sym c.file.ensures.found ∙ c.in-Some.is) _ (preserves.no_name_whole c.args.name c.args.token c.in-Some.file)) _ _ _ _ _ c.in_err-slot.ensures.same_at c.in_err-slot.ensures.sticks)
+    (nested.sticks_first (preserves.no_slot c.args.name ++ end_with NoSession ∷ []) (preserves.of_file c.args.labels.now.bound c.args.name c.args.token c.args.label c.in-Some.file (sym c.file.ensures.found ∙ c.in-Some.is) _ (preserves.no_name_whole c.args.name c.args.token c.in-Some.file)) _ _ _ _ _ c.in_err-slot.ensures.same_at c.in_err-slot.ensures.sticks)
 
 pub preserve_in-requires-clause-ready : goal.preserve_in-requires-clause-ready
 preserve_in-requires-clause-ready g c = ready_after _ _ _ _ _ c.requires.ready c.in_ok-slot.ensures.goes
@@ -58,5 +58,5 @@ returns-in_ok-end_command-in-NoSession-clause-comes g c =
 pub returns-in_err-end_command-in-NoSession-clause-sticks : goal.returns-in_err-end_command-in-NoSession-clause-sticks
 returns-in_err-end_command-in-NoSession-clause-sticks g c =
     let p = err_from_is_err_and c.from_residual-in_err-end_command-in-NoSession.result c.from_residual-in_err-end_command-in-NoSession.ensures.1 in rw (p.1, p.2)
-    (nested.sticks_next _ (end_with NoSession ∷ []) (preserves.of_file c.args.labels.now.bound c.args.name c.args.token c.args.label c.in-Some.file (sym c.file.ensures.found ∙ c.in-Some.is) _ (preserves.no_name_whole c.args.name c.args.token c.in-Some.file)) _ _ _ _ _ _ _
+    (nested.sticks_next (preserves.no_slot c.args.name) (end_with NoSession ∷ []) (preserves.of_file c.args.labels.now.bound c.args.name c.args.token c.args.label c.in-Some.file (sym c.file.ensures.found ∙ c.in-Some.is) _ (preserves.no_name_whole c.args.name c.args.token c.in-Some.file)) _ _ _ _ _ _ _
     (preserves.replied _ _ _ _ _ _ _ _ _ c.in-NoSession.is c.in_ok-slot.ensures.goes) c.in_err-end_command-in-NoSession.ensures.same_at c.in_err-end_command-in-NoSession.ensures.sticks)

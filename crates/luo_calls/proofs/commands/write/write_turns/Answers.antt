@@ -1,3 +1,4 @@
+use Rattle.ho_events.specs.declared.reply.Reply.TheVariants.{BadFd}
 use Rattle.luo_calls.proofs.Sticking.{sticks_as}
 use Rattle.luo_calls.specs.Wrote.{write_deeds, answer_of}
 use Rattle.ho_world.specs.Logs.{Deed, deed_at, end_with}
@@ -19,7 +20,7 @@ returns-in-Ok-clause-comes g c =
 pub returns-in-Err-clause-stopped : goal.returns-in-Err-clause-stopped
 returns-in-Err-clause-stopped g c =
     subst (λ (s : Stuck). SticksAfter (AreWhole (command_acts c.args.labels.now.bound (command.Write c.args.label c.args.off c.args.bytes.now))) s c.args.at.now c.end_command.new.at (g.R.Reach.shown c.args.reach.now) (g.R.Reach.shown c.end_command.new.reach)) (sym c.empty_handed.ensures.stuck)
-    (nested.sticks_first _ (writes.no_file_whole c.args.labels.now.bound c.args.label c.args.off c.args.bytes.now c.in_default.ensures.found) _ _ _ _ _ c.in-Err.ensures.same_at c.in-Err.ensures.sticks)
+    (nested.sticks_first (end_with BadFd ∷ []) (writes.no_file_whole c.args.labels.now.bound c.args.label c.args.off c.args.bytes.now c.in_default.ensures.found) _ _ _ _ _ c.in-Err.ensures.same_at c.in-Err.ensures.sticks)
 
 pub end_command-requires-2 : goal.end_command-requires-2
 end_command-requires-2 g c = record { ready = ready_after _ _ _ _ _ c.requires.ready c.in_ok-wrote.ensures.goes }
