@@ -1,6 +1,6 @@
 //! The command `close`.
 
-ghost use Rattle.std.specs.Prelude.{◌≡◌, ◌<◌, ◌∷◌, [], IfOk, IfErr, OnOk, IsTrue, List, false};
+ghost use Rattle.std.specs.Prelude.{◌≡◌, ◌<◌, IfOk, IfErr, OnOk, IsTrue, List, false};
 ghost use Rattle.ho_base.specs.Objects.{registry_no, session_no};
 ghost use Rattle.ho_events.specs.Session.{is_out};
 ghost use Rattle.ho_world.specs.Acts.{Claim};
@@ -27,7 +27,6 @@ use ho_base::limits::OUT_SLOTS;
 use ho_base::name::Name;
 use ho_base::numbers::{ObjectNo, SlotNo};
 use ho_events::command::Command;
-use ho_events::event::Event;
 use ho_events::reply::Reply;
 use ho_events::slip::{At, Listed};
 use machine_core::{Halt, Object, Reach};
