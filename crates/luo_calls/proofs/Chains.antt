@@ -104,5 +104,5 @@ then_goes ds ds' at at1 at2 a a1 a2 h k = record {
     with_last : ℕ → At → At
     with_last n t = record t { last = n }
 
-pub then_stops : (halt : Halt) (ds ds' : List Deed) (at at1 at2 : At) (a a1 a2 : Agent) → Goes ds at at1 a a1 → Stops halt ds' at1 at2 a1 a2 → Stops halt (ds ++ ds') at at2 a a2
-then_stops halt ds ds' at at1 at2 a a1 a2 h k = record { goes = then_goes ds ds' at at1 at2 a a1 a2 h k.goes; cause = k.cause }
+pub then_stops : (halt : Halt) (ds ds' due : List Deed) (at at1 at2 : At) (a a1 a2 : Agent) → Goes ds at at1 a a1 → Stops halt ds' due at1 at2 a1 a2 → Stops halt (ds ++ ds') due at at2 a a2
+then_stops halt ds ds' due at at1 at2 a a1 a2 h k = record { goes = then_goes ds ds' at at1 at2 a a1 a2 h k.goes; cause = k.cause }

@@ -31,7 +31,7 @@ use Rattle.luo_calls.specs.ClosingFds.{read_of}
 use Rattle.luo_calls.specs.Opened.{Opens}
 use Rattle.luo_calls.specs.declared.stuck.Stuck.{Stuck}
 use Rattle.luo_calls.specs.Memfds.{IsMemfd, IsOtherFile}
-use Rattle.luo_calls.specs.Stuck.{Sticks, SticksWith}
+use Rattle.luo_calls.specs.Stuck.{Sticks, SticksWith, turn}
 use Rattle.luo_calls.proofs.Sticking.{sticks_number}
 
 no_init : (s : Option FileState) (kind : Kind) (o : Order) (size : ℕ) (runs : List Pfn) → is_some s ≡ true → (reply : Reply) → file_step s (FileInit kind o size runs) reply ≡ None
@@ -110,8 +110,8 @@ memfd_claimed a hands file v o held h =
     (subst (λ k. HoldsOf k (IsFile file Memfd o)) (sym held) (sort_at _ _ o refl (state_of v (λ s. IsMemfd (option_map facts_of s) o) h)), tt)
 
 -- a file, in hand for an open turn, can't be used as the command has to
-pub broken_file_sticks : (at : At) (number : ObjectNo) (n : ℕ) (a a1 : Agent) (f : FileValue) (stuck : Stuck) → number.0 ≡ n → a.hands n ≡ None → Opens at n a a1 (File f) → IsUnfit (Some (start_of (File f))) f.history at number.0 → stuck.halt ≡ Broken number → stuck.held ≡ Some (number, File f) → Sticks at stuck a a1
-broken_file_sticks at number n a a1 f stuck is free opens unfit halt held =
-    subst (λ h. SticksWith at h stuck.held a a1) (sym halt)
-    (subst (λ x. SticksWith at (Broken number) x a a1) (sym held)
-    (sticks_number at (Broken number) number n a a1 (File f) is free opens (refl, unfit)))
+pub broken_file_sticks : (at : At) (number : ObjectNo) (n : ℕ) (a a1 : Agent) (f : FileValue) (event : Event) (stuck : Stuck) → number.0 ≡ n → a.hands n ≡ None → Opens at n a a1 (File f) → IsUnfit event (Some (start_of (File f))) f.history at number.0 → stuck.halt ≡ Broken number → stuck.held ≡ Some (number, File f) → Sticks at (turn n event) stuck a a1
+broken_file_sticks at number n a a1 f event stuck is free opens unfit halt held =
+    subst (λ h. SticksWith at (turn n event) h stuck.held a a1) (sym halt)
+    (subst (λ x. SticksWith at (turn n event) (Broken number) x a a1) (sym held)
+    (sticks_number at (turn n event) (Broken number) number n a a1 (File f) is free opens (refl, (sym is, unfit))))

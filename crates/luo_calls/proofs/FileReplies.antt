@@ -3,13 +3,11 @@ use Rattle.std.proofs.Common.{◌≡◌, ℕ, List, [], ◌∷◌, ◌++◌, map
 use Rattle.std.specs.Prelude.{Option, Some, None, MatchOption}
 use Rattle.ho_base.specs.declared.numbers.Pfn.{Pfn}
 use Rattle.phys_frames.specs.Homes.{HomeId}
-use Rattle.phys_frames.specs.Memory.{FolioValue}
+use Rattle.phys_frames.specs.Memory.{FolioValue, AreOf, first_frames}
 use Rattle.ho_events.specs.File.{FileState}
 use Rattle.ho_events.specs.declared.reply.Reply.{Reply}
 use Rattle.ho_events.specs.declared.reply.Reply.TheVariants.{NotFinished, AlreadyPinned, OkRuns, Kept, KeptRuns, Gone}
 use Rattle.memfd_file.specs.Files.{IsPinAnswer, IsUnpinAnswer, IsCloseFdAnswer, given_up, folio_of}
-use Rattle.phys_frames.specs.Memory.{AreOf}
-use Rattle.phys_frames.specs.Memory.{first_frames}
 use Rattle.luo_calls.specs.Replies.{IsPinReply, IsUnpinReply, IsCloseFdReply, IsGivenUp}
 
 pin_is : (f : FileState) → (v : Reply) → IsPinAnswer f v → IsPinReply v

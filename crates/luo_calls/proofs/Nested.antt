@@ -17,9 +17,10 @@ use Rattle.machine_core.specs.Agents.{Agent, with_at, took, gave_back, CanEnd, H
 use Rattle.machine_core.specs.Turns.{IsReady, TellsMore, Goes}
 use Rattle.luo_calls.specs.declared.stuck.Stuck.{Stuck}
 use Rattle.luo_calls.specs.Opened.{IsThere, Opens, Holds, without}
-use Rattle.luo_calls.specs.Stuck.{IsAgentCause, IsObjectCause, SticksBefore, SticksAt, SticksWith, Sticks}
+use Rattle.luo_calls.specs.Stuck.{IsAgentCause, IsObjectCause, SticksBefore, SticksAt, SticksWith, Sticks, Turn, turn_of}
 use Rattle.luo_calls.specs.Doing.{SticksAfter}
 use Rattle.luo_calls.proofs.Chains.{then_goes}
+use Rattle.luo_calls.proofs.Sticking.{sticks_more}
 use Rattle.luo_calls.proofs.Opens.{SameButRoom, known_same, there_same}
 use Rattle.luo_calls.proofs.Steps.{at_same, put_back, has, ended_none, goes_none}
 
@@ -104,10 +105,10 @@ reopens at n a a1 o h room early more log_room = record {
 }
 
 -- the turn on it doesn't go on
-pub sticks_held : (at : At) (halt : Halt) (number : ObjectNo) (n : ℕ) (a a1 : Agent) (o : Object) → number.0 ≡ n → Holds n a o → a1 ≡ record a { room = a1.room } → IsObjectCause halt at number o → SticksAt at halt number o (without n a) a1
-sticks_held at halt number n a a1 o is h room cause = subst (λ k. SticksAt at halt number o (without k a) a1) is (held_at (subst (λ k. Holds k a o) (sym is) h))
+pub sticks_held : {due : Option Turn} → (at : At) (halt : Halt) (number : ObjectNo) (n : ℕ) (a a1 : Agent) (o : Object) → number.0 ≡ n → Holds n a o → a1 ≡ record a { room = a1.room } → IsObjectCause halt due at number o → SticksAt at due halt number o (without n a) a1
+sticks_held {due} at halt number n a a1 o is h room cause = subst (λ k. SticksAt at due halt number o (without k a) a1) is (held_at (subst (λ k. Holds k a o) (sym is) h))
   where
-    held_at : Holds number.0 a o → SticksAt at halt number o (without number.0 a) a1
+    held_at : Holds number.0 a o → SticksAt at due halt number o (without number.0 a) a1
     held_at h = record {
       found = there_of a (without number.0 a) number.0 o refl refl h.found;
       free = free_without number.0 a;
@@ -142,13 +143,13 @@ goes_nowhere at a = goes_none at a a refl refl refl refl refl refl refl
 
 -- ---- a turn that can't be taken while it is in hand
 
-holds_stuck : (at : At) (halt : Halt) (held : Option (ObjectNo × Object)) (n : ℕ) (a a1 : Agent) (o : Object) → SticksWith at halt held a a1 → Holds n a o → Holds n a1 o
-holds_stuck at halt None n a a1 o s h = record {
+holds_stuck : (at : At) (due : Option Turn) (halt : Halt) (held : Option (ObjectNo × Object)) (n : ℕ) (a a1 : Agent) (o : Object) → SticksWith at due halt held a a1 → Holds n a o → Holds n a1 o
+holds_stuck at due halt None n a a1 o s h = record {
   found = there_of a a1 n o (ap (λ (x : Agent). x.starts) s.same) (ap (λ (x : Agent). x.anchor) s.same) h.found;
   last = h.last;
   held = ap (λ (x : Agent). x.hands n) s.same ∙ h.held;
 }
-holds_stuck at halt (Some x) n a a1 o s h = record {
+holds_stuck at due halt (Some x) n a a1 o s h = record {
   found = there_of a a1 n o (ap (λ (x : Agent). x.starts) s.same) (ap (λ (x : Agent). x.anchor) s.same) h.found;
   last = h.last;
   held = ap (λ (y : Agent). y.hands n) s.same ∙ stays (n == x.0.0) refl;
@@ -161,15 +162,15 @@ holds_stuck at halt (Some x) n a a1 o s h = record {
         clash e = absurd cc
     stays false is = ap (λ b. cond b (Some (known_of x.1)) (a.hands n)) is ∙ h.held
 
-pub can_let_go_stuck : (at : At) (stuck : Stuck) (n : ℕ) (a a1 : Agent) (o : Object) → Sticks at stuck a a1 → Holds n a o → CanEnd a1 n o None (a1.hands n)
-can_let_go_stuck at stuck n a a1 o s h = can_let_go n a1 o (holds_stuck at stuck.halt stuck.held n a a1 o s h)
+pub can_let_go_stuck : {due : Option Turn} → (at : At) (stuck : Stuck) (n : ℕ) (a a1 : Agent) (o : Object) → Sticks at due stuck a a1 → Holds n a o → CanEnd a1 n o None (a1.hands n)
+can_let_go_stuck {due} at stuck n a a1 o s h = can_let_go n a1 o (holds_stuck at due stuck.halt stuck.held n a a1 o s h)
 
-under_with : (at : At) (halt : Halt) (held : Option (ObjectNo × Object)) (n : ℕ) (a a1 a2 : Agent) (o : Object) → SticksWith at halt held a a1 → Holds n a o → IsButForRoom (gave_back n (history_of o) a1) a2 → SticksWith at halt held (without n a) a2
-under_with at halt None n a a1 a2 o s h gave = record {
+under_with : (at : At) (due : Option Turn) (halt : Halt) (held : Option (ObjectNo × Object)) (n : ℕ) (a a1 a2 : Agent) (o : Object) → SticksWith at due halt held a a1 → Holds n a o → IsButForRoom (gave_back n (history_of o) a1) a2 → SticksWith at due halt held (without n a) a2
+under_with at due halt None n a a1 a2 o s h gave = record {
   same = gave.same ∙ (λ i. record (s.same i) { hands = with_at n None (s.same i).hands; room = a2.room; back = (sym (ap (λ (x : Agent). x.back) gave.same)) i });
   cause = s.cause;
 }
-under_with at halt (Some x) n a a1 a2 o s h gave = record {
+under_with at due halt (Some x) n a a1 a2 o s h gave = record {
   found = there_of a (without n a) x.0.0 x.1 refl refl s.found;
   free = free_of (x.0.0 == n) refl;
   same =
@@ -190,25 +191,41 @@ under_with at halt (Some x) n a a1 a2 o s h gave = record {
     free_of false is = ap (λ b. cond b None (a.hands x.0.0)) is ∙ s.free
 
 -- the object in hand goes back first
-pub sticks_under : (at : At) (stuck : Stuck) (n : ℕ) (a a1 a2 : Agent) (o : Object) → Sticks at stuck a a1 → Holds n a o → HasEnded a1 n None (a1.hands n) a2 → Sticks at stuck (without n a) a2
-sticks_under at stuck n a a1 a2 o s h gave_it =
-    under_with at stuck.halt stuck.held n a a1 a2 o s h (ended_none a1 n (known_of o) (a1.hands n) a2 (holds_stuck at stuck.halt stuck.held n a a1 o s h).held gave_it).shows
+pub sticks_under : {due : Option Turn} → (at : At) (stuck : Stuck) (n : ℕ) (a a1 a2 : Agent) (o : Object) → Sticks at due stuck a a1 → Holds n a o → HasEnded a1 n None (a1.hands n) a2 → Sticks at due stuck (without n a) a2
+sticks_under {due} at stuck n a a1 a2 o s h gave_it =
+    under_with at due stuck.halt stuck.held n a a1 a2 o s h (ended_none a1 n (known_of o) (a1.hands n) a2 (holds_stuck at due stuck.halt stuck.held n a a1 o s h).held gave_it).shows
 
 -- ---- a command that sticks
 
-pub sticks_first : (at at' : At) (stuck : Stuck) (a a' : Agent) → at' ≡ at → Sticks at stuck a a' → SticksAfter stuck at at' a a'
-sticks_first at at' stuck a a' same s = subst (λ t. SticksAfter stuck at t a a') (sym same) (record { deeds = []; middle = a; goes = goes_nowhere at a; sticks = s })
+-- after some deeds the turn of the next one can't be taken
+pub sticks_next : {W : List Deed → Type 0} → (ds due : List Deed) → W (ds ++ due) → (at at1 at2 : At) (stuck : Stuck) (a a1 a2 : Agent) → Goes ds at at1 a a1 → at2 ≡ at1 → Sticks at1 (turn_of due) stuck a1 a2 → SticksAfter W stuck at at2 a a2
+sticks_next {W} ds due front at at1 at2 stuck a a1 a2 g same s =
+    subst (λ t. SticksAfter W stuck at t a a2) (sym same) (record { deeds = ds; due = due; front = front; middle = a1; goes = g; sticks = s })
 
-pub sticks_later : (ds : List Deed) (at at1 at2 : At) (stuck : Stuck) (a a1 a2 : Agent) → Goes ds at at1 a a1 → SticksAfter stuck at1 at2 a1 a2 → SticksAfter stuck at at2 a a2
-sticks_later ds at at1 at2 stuck a a1 a2 g s = record {
+-- that of the first one
+pub sticks_first : {W : List Deed → Type 0} → (due : List Deed) → W due → (at at' : At) (stuck : Stuck) (a a' : Agent) → at' ≡ at → Sticks at (turn_of due) stuck a a' → SticksAfter W stuck at at' a a'
+sticks_first due front at at' stuck a a' same s = sticks_next [] due front at at at' stuck a a a' (goes_nowhere at a) same s
+
+-- after some deeds it goes on, and sticks;  more deeds come after those that may come
+pub sticks_later : {V W : List Deed → Type 0} → (ds : List Deed) → ((rest : List Deed) → V rest → W (ds ++ rest)) → (at at1 at2 : At) (stuck : Stuck) (a a1 a2 : Agent) → Goes ds at at1 a a1 → SticksAfter V stuck at1 at2 a1 a2 → SticksAfter W stuck at at2 a a2
+sticks_later {V} {W} ds on at at1 at2 stuck a a1 a2 g s = record {
   deeds = ds ++ s.deeds;
+  due = s.due;
+  front = subst W (sym (append_assoc ds s.deeds s.due)) (on _ s.front);
   middle = s.middle;
   goes = then_goes ds s.deeds at at1 at2 a a1 s.middle g s.goes;
   sticks = s.sticks;
 }
 
-pub sticks_next : (ds : List Deed) (at at1 at2 : At) (stuck : Stuck) (a a1 a2 : Agent) → Goes ds at at1 a a1 → at2 ≡ at1 → Sticks at1 stuck a1 a2 → SticksAfter stuck at at2 a a2
-sticks_next ds at at1 at2 stuck a a1 a2 g same s = sticks_later ds at at1 at2 stuck a a1 a2 g (sticks_first at1 at2 stuck a1 a2 same s)
+pub sticks_before : {V W : List Deed → Type 0} → (more : List Deed) → ((ds : List Deed) → V ds → W (ds ++ more)) → (at at' : At) (stuck : Stuck) (a a' : Agent) → SticksAfter V stuck at at' a a' → SticksAfter W stuck at at' a a'
+sticks_before {V} {W} more on at at' stuck a a' s = record {
+  deeds = s.deeds;
+  due = s.due ++ more;
+  front = subst W (append_assoc s.deeds s.due more) (on _ s.front);
+  middle = s.middle;
+  goes = s.goes;
+  sticks = sticks_more at' s.due more stuck s.middle a' s.sticks;
+}
 
 -- ---- sessions and files that get more room
 
@@ -235,10 +252,10 @@ file_more s t number start history home = record {
 pub let_go_at : (m n : ℕ) (a a1 : Agent) (o : Object) → m ≡ n → a1 ≡ record a { room = a1.room } → Holds n a o → CanEnd a1 m o None (a1.hands m)
 let_go_at m n a a1 o is room h = subst (λ k. CanEnd a1 k o None (a1.hands k)) (sym is) (can_let_go n a1 o (holds_room n a a1 o room h))
 
-pub under_at : (at : At) (stuck : Stuck) (m n : ℕ) (a a1 a2 : Agent) (o : Object) → m ≡ n → Sticks at stuck a a1 → Holds n a o → HasEnded a1 m None (a1.hands m) a2 → Sticks at stuck (without n a) a2
+pub under_at : {due : Option Turn} → (at : At) (stuck : Stuck) (m n : ℕ) (a a1 a2 : Agent) (o : Object) → m ≡ n → Sticks at due stuck a a1 → Holds n a o → HasEnded a1 m None (a1.hands m) a2 → Sticks at due stuck (without n a) a2
 under_at at stuck m n a a1 a2 o is s h gave = sticks_under at stuck n a a1 a2 o s h (subst (λ k. HasEnded a1 k None (a1.hands k) a2) is gave)
 
-pub let_go_stuck_at : (at : At) (stuck : Stuck) (m n : ℕ) (a a1 : Agent) (o : Object) → m ≡ n → Sticks at stuck a a1 → Holds n a o → CanEnd a1 m o None (a1.hands m)
+pub let_go_stuck_at : {due : Option Turn} → (at : At) (stuck : Stuck) (m n : ℕ) (a a1 : Agent) (o : Object) → m ≡ n → Sticks at due stuck a a1 → Holds n a o → CanEnd a1 m o None (a1.hands m)
 let_go_stuck_at at stuck m n a a1 o is s h = subst (λ k. CanEnd a1 k o None (a1.hands k)) (sym is) (can_let_go_stuck at stuck n a a1 o s h)
 
 -- ---- deeds, seen but for an object that is in hand meanwhile
@@ -271,9 +288,11 @@ outer_goes ds at at1 n a a1 a2 o opens free g = record {
   told = subst (λ t. TellsMore g.made t a2.told) (ap (λ (x : Agent). x.told) opens.same) g.told;
 }
 
-pub outer_sticks : (at at1 : At) (stuck : Stuck) (n : ℕ) (a a1 a2 : Agent) (o : Object) → Opens at n a a1 o → a.hands n ≡ None → SticksAfter stuck at at1 (without n a1) a2 → SticksAfter stuck at at1 a a2
+pub outer_sticks : {W : List Deed → Type 0} → (at at1 : At) (stuck : Stuck) (n : ℕ) (a a1 a2 : Agent) (o : Object) → Opens at n a a1 o → a.hands n ≡ None → SticksAfter W stuck at at1 (without n a1) a2 → SticksAfter W stuck at at1 a a2
 outer_sticks at at1 stuck n a a1 a2 o opens free s = record {
   deeds = s.deeds;
+  due = s.due;
+  front = s.front;
   middle = s.middle;
   goes = outer_goes s.deeds at at1 n a a1 s.middle o opens free s.goes;
   sticks = s.sticks;

@@ -23,7 +23,7 @@ use Rattle.machine_core.specs.Agents.{Agent, with_at, begun}
 use Rattle.machine_core.specs.Turns.{CannotCome}
 use Rattle.luo_calls.specs.Opened.{Opens}
 use Rattle.luo_calls.specs.declared.stuck.Stuck.{Stuck}
-use Rattle.luo_calls.specs.Stuck.{Sticks, SticksWith}
+use Rattle.luo_calls.specs.Stuck.{Sticks, SticksWith, turn}
 use Rattle.luo_calls.proofs.Sticking.{sticks_open}
 use Rattle.luo_calls.proofs.Steps.{all_claimed_more}
 
@@ -52,11 +52,11 @@ cannot_unmark None o runs b e h = tt
 cannot_unmark (Some s) o runs b e h = no_unmark s o runs (sym h ∙ e)
 
 -- the pool, in hand for an open turn, can't make the event that is due
-pub broken_pool_sticks : (at : At) (a a1 : Agent) (p : PoolValue) (stuck : Stuck) → a.hands pool_no ≡ None → Opens at pool_no a a1 (Pool p) → (event : Event) → CannotCome (Some (start_of (Pool p))) p.history at pool_no event → stuck.halt ≡ Broken (record { 0 = pool_no }) → stuck.held ≡ Some (record { 0 = pool_no }, Pool p) → Sticks at stuck a a1
+pub broken_pool_sticks : (at : At) (a a1 : Agent) (p : PoolValue) (stuck : Stuck) → a.hands pool_no ≡ None → Opens at pool_no a a1 (Pool p) → (event : Event) → CannotCome (Some (start_of (Pool p))) p.history at pool_no event → stuck.halt ≡ Broken (record { 0 = pool_no }) → stuck.held ≡ Some (record { 0 = pool_no }, Pool p) → Sticks at (turn pool_no event) stuck a a1
 broken_pool_sticks at a a1 p stuck free opens event cannot halt held =
-    subst (λ h. SticksWith at h stuck.held a a1) (sym halt)
-    (subst (λ x. SticksWith at (Broken (record { 0 = pool_no })) x a a1) (sym held)
-    (sticks_open at (Broken (record { 0 = pool_no })) (record { 0 = pool_no }) a a1 (Pool p) free opens (refl, inl (event, cannot))))
+    subst (λ h. SticksWith at (turn pool_no event) h stuck.held a a1) (sym halt)
+    (subst (λ x. SticksWith at (turn pool_no event) (Broken (record { 0 = pool_no })) x a a1) (sym held)
+    (sticks_open at (turn pool_no event) (Broken (record { 0 = pool_no })) (record { 0 = pool_no }) a a1 (Pool p) free opens (refl, (refl, inl cannot))))
 
 -- what is known of the objects in hand is known while one more is in hand
 pub hands_more : (f : ℕ → Option Known) (n : ℕ) (k : Known) → f n ≡ None → (o : ℕ) (j : Known) → f o ≡ Some j → with_at n (Some k) f o ≡ Some j

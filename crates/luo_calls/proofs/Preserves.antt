@@ -5,7 +5,7 @@ use Rattle.std.specs.Prelude as result
 use Rattle.std.specs.FinMap as finmap
 use Rattle.std.specs.declared.snapshot.Snapshot.{Snapshot}
 use Rattle.ho_base.specs.declared.items.Items.{Items}
-use Rattle.ho_base.specs.Objects.{registry_no, file_no}
+use Rattle.ho_base.specs.Objects.{registry_no, file_no, session_no}
 use Rattle.ho_base.specs.declared.numbers.FileNo.{FileNo}
 use Rattle.ho_base.specs.declared.numbers.Kind.TheVariants.{Memfd}
 use Rattle.ho_base.specs.declared.numbers.Order.{Order}
@@ -24,24 +24,25 @@ use Rattle.ho_world.specs.Entries.{is_ok}
 use Rattle.ho_world.specs.Logs.{Paired, Deed, deed_at, end_with, AreDone}
 use Rattle.ho_world.specs.Sequences.{Labels, NoFile, Outcome, PreserveCame, command_acts, on_label, preserved}
 use Rattle.ho_world.specs.Sequences.Preserving as preserving
-use Rattle.ho_world.specs.Sequences.Preserving.{is_pin_refusal, is_session_refusal}
+use Rattle.ho_world.specs.Sequences.Preserving.{is_pin_refusal, is_session_refusal, preserve_acts}
 use Rattle.ho_world.specs.World.{State}
 use Rattle.session_core.specs.Sessions.{add_answer, is_loss, refusal_by, refusal_of}
 use Rattle.machine_core.specs.declared.object.Object.{Object}
 use Rattle.machine_core.specs.Agents.{Agent}
 use Rattle.machine_core.specs.Commands.{Comes}
 use Rattle.machine_core.specs.Turns.{Goes}
-use Rattle.luo_calls.specs.Doing.{SticksAfter}
+use Rattle.luo_calls.specs.Doing.{AreRest, AreWhole, SticksAfter, slot_found}
 use Rattle.luo_calls.specs.Opened.{Opens, without}
 use Rattle.luo_calls.specs.Preserved.{added, marked, preserve_deeds, reply_to, IsPreserved}
 use Rattle.luo_calls.specs.Replies.{IsPinReply}
-use Rattle.luo_calls.specs.Stuck.{Sticks}
+use Rattle.luo_calls.specs.Stuck.{Sticks, turn, turn_of}
 use Rattle.luo_calls.specs.declared.commands.preserve.Preserved.{Preserved}
 use Rattle.luo_calls.specs.declared.commands.preserve.Preserved.TheVariants.{NotAdmitted, NotPinned, Pinned}
 use Rattle.luo_calls.specs.declared.stuck.Stuck.{Stuck}
 use Rattle.luo_calls.proofs.Chains.{then_goes}
-use Rattle.luo_calls.proofs.Nested.{outer_goes, outer_sticks, sticks_next}
+use Rattle.luo_calls.proofs.Nested.{outer_goes, outer_sticks, sticks_before, sticks_later, sticks_next}
 use Rattle.luo_calls.proofs.Steps.{goes_none}
+use Rattle.luo_calls.proofs.Sticking.{whole_by}
 
 -- ---- what is answered
 
@@ -126,7 +127,7 @@ pub outer_comes : (s : SlotNo) (name : List ℕ) (t : Token) (f : FileNo) (n : �
 outer_comes s name t f n at at1 a a1 a2 o (result.Ok p) opens free h = outer_goes _ at at1 n a a1 a2 o opens free h
 outer_comes s name t f n at at1 a a1 a2 o (result.Err stuck) opens free h = tt
 
-pub outer_stops : (n : ℕ) (at at1 : At) (a a1 a2 : Agent) (o : Object) (r : Result Preserved Stuck) → Opens at n a a1 o → a.hands n ≡ None → IfErr r (λ stuck. SticksAfter stuck at at1 (without n a1) a2) → IfErr r (λ stuck. SticksAfter stuck at at1 a a2)
+pub outer_stops : {W : List Deed → Type 0} → (n : ℕ) (at at1 : At) (a a1 a2 : Agent) (o : Object) (r : Result Preserved Stuck) → Opens at n a a1 o → a.hands n ≡ None → IfErr r (λ stuck. SticksAfter W stuck at at1 (without n a1) a2) → IfErr r (λ stuck. SticksAfter W stuck at at1 a a2)
 outer_stops n at at1 a a1 a2 o (result.Ok p) opens free h = tt
 outer_stops n at at1 a a1 a2 o (result.Err stuck) opens free h = outer_sticks at at1 stuck n a a1 a2 o opens free h
 
@@ -150,6 +151,84 @@ pinned_acts name t f s o runs = record {
       ∷ (unless_empty runs (pool [] (PoolMark o runs) Ok) ++ session s [] (SessionAdd name t f 0) Ok ∷ []);
   reply = Ok;
 }
+
+-- no slot has the name
+abbrev pub no_slot : List ℕ → List Deed
+no_slot name = deed_at registry_no [] (RegFindOut name) NoSession ∷ []
+
+-- the deeds of its whole sequences, once the slot was found
+module _ (name : List ℕ) (token : Token) (f : FileNo) where
+  pub no_name_whole : AreWhole (preserve_acts name token f) (deed_at registry_no [] (RegFindOut name) NoSession ∷ end_with NoSession ∷ [])
+  no_name_whole = record {
+    outcome = preserving.NoName;
+    sequence = record { acts = registry (RegFindOut name) NoSession ∷ []; reply = NoSession };
+    is_one = refl;
+    deeds_are = refl;
+  }
+
+  module _ (slot : SlotNo) where
+    pub refused_whole : (x : Reply) → IsTrue (is_session_refusal x) → AreRest (preserve_acts name token f) (slot_found name slot) (added slot name token f x ++ end_with x ∷ [])
+    refused_whole x is = record {
+      outcome = preserving.NotAdmitted slot x;
+      sequence = refused_acts name token f slot x;
+      is_one = ap (λ b. cond b (Some (refused_acts name token f slot x)) None) is;
+      deeds_are = refl;
+    }
+
+    pub lost_whole : (x : Reply) → IsTrue (is_pin_refusal x) → AreRest (preserve_acts name token f) (slot_found name slot) (deed_at (file_no f.0) [] (FilePin []) x ∷ (added slot name token f x ++ end_with x ∷ []))
+    lost_whole x is = record {
+      outcome = preserving.NotPinned slot x;
+      sequence = lost_acts name token f slot x;
+      is_one = ap (λ b. cond b (Some (lost_acts name token f slot x)) None) is;
+      deeds_are = refl;
+    }
+
+    pub pinned_whole : (o : Order) (runs : List Pfn) → AreRest (preserve_acts name token f) (slot_found name slot) (deed_at (file_no f.0) (IsFile f Memfd o ∷ []) (FilePin []) (OkRuns runs) ∷ ((marked o runs ++ added slot name token f Ok) ++ end_with Ok ∷ []))
+    pinned_whole o [] = record { outcome = preserving.Pinned slot o [] []; sequence = pinned_acts name token f slot o []; is_one = refl; deeds_are = refl }
+    pinned_whole o (r ∷ rs) = record {
+      outcome = preserving.Pinned slot o [] (r ∷ rs);
+      sequence = pinned_acts name token f slot o (r ∷ rs);
+      is_one = refl;
+      deeds_are = refl;
+    }
+
+    pub came_whole : (p : Preserved) → IsPreserved p → AreRest (preserve_acts name token f) (slot_found name slot) (preserve_deeds slot name token f p ++ end_with (reply_to p) ∷ [])
+    came_whole (NotAdmitted x) is = refused_whole x is
+    came_whole (NotPinned x) is = lost_whole x is
+    came_whole (Pinned o runs) is = pinned_whole o runs.value
+
+    -- the rest of a pin, by the reply that brought the runs
+    pub pinned_rest : (o : Order) (runs : List Pfn) (reply : Reply) → reply ≡ OkRuns runs → (ds : List Deed) → ds ≡ marked o runs ++ added slot name token f Ok → AreRest (preserve_acts name token f) (slot_found name slot) (deed_at (file_no f.0) (IsFile f Memfd o ∷ []) (FilePin []) reply ∷ (ds ++ end_with Ok ∷ []))
+    pinned_rest o runs reply is ds same =
+        subst (λ (x : Reply). AreRest (preserve_acts name token f) (slot_found name slot) (deed_at (file_no f.0) (IsFile f Memfd o ∷ []) (FilePin []) x ∷ (ds ++ end_with Ok ∷ []))) (sym is)
+        (subst (λ xs. AreRest (preserve_acts name token f) (slot_found name slot) (deed_at (file_no f.0) (IsFile f Memfd o ∷ []) (FilePin []) (OkRuns runs) ∷ (xs ++ end_with Ok ∷ []))) (sym same) (pinned_whole o runs))
+
+-- those of the command
+module _ (labels : Labels) (name : List ℕ) (token : Token) (label : List ℕ) where
+  pub no_file_whole : finmap.get labels label ≡ None → AreWhole (command_acts labels (command.Preserve name token label)) (end_with BadFd ∷ [])
+  no_file_whole none = record {
+    outcome = NoFile;
+    sequence = record { acts = []; reply = BadFd };
+    is_one = ap (λ o. on_label o (preserved name token) NoFile) none;
+    deeds_are = refl;
+  }
+
+  pub of_file : (f : FileNo) → finmap.get labels label ≡ Some f → (ds : List Deed) → AreWhole (preserve_acts name token f) ds → AreWhole (command_acts labels (command.Preserve name token label)) ds
+  of_file f bound =
+      whole_by (preserve_acts name token f) (command_acts labels (command.Preserve name token label)) PreserveCame
+      (λ x. ap (λ o. on_label o (preserved name token) (PreserveCame x)) bound)
+
+-- after the pin, the marks or the add can't be made
+pub mark_sticks : (name : List ℕ) (token : Token) (f : FileNo) (slot : SlotNo) (o : Order) (runs : List Pfn) (reply : Reply) (at at1 at2 : At) (stuck : Stuck) (a a1 a2 : Agent) → reply ≡ OkRuns runs → Goes (deed_at (file_no f.0) (IsFile f Memfd o ∷ []) (FilePin []) reply ∷ []) at at1 a a1 → SticksAfter (λ ds. ds ≡ marked o runs ++ added slot name token f Ok) stuck at1 at2 a1 a2 → SticksAfter (AreRest (preserve_acts name token f) (slot_found name slot)) stuck at at2 a a2
+mark_sticks name token f slot o runs reply at at1 at2 stuck a a1 a2 is g s =
+    sticks_later {V = (λ ds. AreRest (preserve_acts name token f) (slot_found name slot) (deed_at (file_no f.0) (IsFile f Memfd o ∷ []) (FilePin []) reply ∷ ds))} {W = AreRest (preserve_acts name token f) (slot_found name slot)} (deed_at (file_no f.0) (IsFile f Memfd o ∷ []) (FilePin []) reply ∷ []) (λ rest h. h) at at1 at2 stuck a a1 a2 g
+    (sticks_before {V = λ ds. ds ≡ marked o runs ++ added slot name token f Ok} {W = (λ ds. AreRest (preserve_acts name token f) (slot_found name slot) (deed_at (file_no f.0) (IsFile f Memfd o ∷ []) (FilePin []) reply ∷ ds))} (end_with Ok ∷ []) (pinned_rest name token f slot o runs reply is) at1 at2 stuck a1 a2 s)
+
+-- the file refused the pin, and the add can't be made
+pub lost_sticks : (name : List ℕ) (token : Token) (f : FileNo) (slot : SlotNo) (claims : List Claim) (lost : Reply) (at at1 at2 : At) (stuck : Stuck) (a a1 a2 : Agent) → IsTrue (is_pin_refusal lost) → Goes (deed_at (file_no f.0) claims (FilePin []) lost ∷ []) at at1 a a1 → at2 ≡ at1 → Sticks at1 (turn (session_no slot.0) (SessionAdd name token f 0)) stuck a1 a2 → SticksAfter (AreRest (preserve_acts name token f) (slot_found name slot)) stuck at at2 a a2
+lost_sticks name token f slot claims lost at at1 at2 stuck a a1 a2 is g same s =
+    sticks_next (deed_at (file_no f.0) [] (FilePin []) lost ∷ []) (added slot name token f lost ++ end_with lost ∷ []) (lost_whole name token f slot lost is)
+    at at1 at2 stuck a a1 a2 (unread _ claims _ lost at at1 a a1 g) same s
 
 module _ (labels : Labels) (name : List ℕ) (token : Token) (label : List ℕ) (at at1 : At) (a a1 : Agent) where
   -- no file has the label
@@ -230,6 +309,6 @@ module _ (labels : Labels) (name : List ℕ) (token : Token) (label : List ℕ) 
       came_told p x (result.Err stuck) is fits h told k = tt
 
 -- the command can't be ended
-pub told_sticks : (ds : List Deed) (at at1 at2 : At) (a a1 a2 : Agent) (r : Result Reply Stuck) → Goes ds at at1 a a1 → OnErr r (at2 ≡ at1) → IfErr r (λ stuck. Sticks at1 stuck a1 a2) → IfErr r (λ stuck. SticksAfter stuck at at2 a a2)
-told_sticks ds at at1 at2 a a1 a2 (result.Ok x) h same s = tt
-told_sticks ds at at1 at2 a a1 a2 (result.Err stuck) h same s = sticks_next ds at at1 at2 stuck a a1 a2 h same s
+pub told_sticks : {W : List Deed → Type 0} → (ds due : List Deed) → W (ds ++ due) → (at at1 at2 : At) (a a1 a2 : Agent) (r : Result Reply Stuck) → Goes ds at at1 a a1 → OnErr r (at2 ≡ at1) → IfErr r (λ stuck. Sticks at1 (turn_of due) stuck a1 a2) → IfErr r (λ stuck. SticksAfter W stuck at at2 a a2)
+told_sticks ds due front at at1 at2 a a1 a2 (result.Ok x) h same s = tt
+told_sticks ds due front at at1 at2 a a1 a2 (result.Err stuck) h same s = sticks_next ds due front at at1 at2 stuck a a1 a2 h same s

@@ -20,7 +20,7 @@ use Rattle.machine_core.specs.Agents.{Agent}
 use Rattle.machine_core.specs.Turns.{CannotCome}
 use Rattle.luo_calls.specs.Opened.{Opens}
 use Rattle.luo_calls.specs.declared.stuck.Stuck.{Stuck}
-use Rattle.luo_calls.specs.Stuck.{Sticks, SticksWith}
+use Rattle.luo_calls.specs.Stuck.{Sticks, SticksWith, turn}
 use Rattle.luo_calls.proofs.Sticking.{sticks_open}
 
 is_false : (b : Bool) → (IsTrue b → ⊥) → b ≡ false
@@ -48,8 +48,8 @@ cannot_free None f b e h = tt
 cannot_free (Some s) f b e h = no_free s f (is_false _ (λ x. not_true b e (h.1 x)))
 
 -- the registry, in hand for an open turn, can't make the event that is due
-pub broken_sticks : (at : At) (a a1 : Agent) (r : RegistryValue) (stuck : Stuck) → a.hands registry_no ≡ None → Opens at registry_no a a1 (Registry r) → (event : Event) → CannotCome (Some (start_of (Registry r))) r.history at registry_no event → stuck.halt ≡ Broken (record { 0 = registry_no }) → stuck.held ≡ Some (record { 0 = registry_no }, Registry r) → Sticks at stuck a a1
+pub broken_sticks : (at : At) (a a1 : Agent) (r : RegistryValue) (stuck : Stuck) → a.hands registry_no ≡ None → Opens at registry_no a a1 (Registry r) → (event : Event) → CannotCome (Some (start_of (Registry r))) r.history at registry_no event → stuck.halt ≡ Broken (record { 0 = registry_no }) → stuck.held ≡ Some (record { 0 = registry_no }, Registry r) → Sticks at (turn registry_no event) stuck a a1
 broken_sticks at a a1 r stuck free opens event cannot halt held =
-    subst (λ h. SticksWith at h stuck.held a a1) (sym halt)
-    (subst (λ x. SticksWith at (Broken (record { 0 = registry_no })) x a a1) (sym held)
-    (sticks_open at (Broken (record { 0 = registry_no })) (record { 0 = registry_no }) a a1 (Registry r) free opens (refl, inl (event, cannot))))
+    subst (λ h. SticksWith at (turn registry_no event) h stuck.held a a1) (sym halt)
+    (subst (λ x. SticksWith at (turn registry_no event) (Broken (record { 0 = registry_no })) x a a1) (sym held)
+    (sticks_open at (turn registry_no event) (Broken (record { 0 = registry_no })) (record { 0 = registry_no }) a a1 (Registry r) free opens (refl, (refl, inl cannot))))

@@ -62,55 +62,12 @@ goes_none at a a' log number anchor starts earlier hands told = record {
   told = subst (λ t. TellsMore [] a.told t) (sym told) (tells_none a.told);
 }
 
--- ---- stops
-
-pub stops_late : (at : At) (a : Agent) → 2 ^ 63 ≤ at.last → Stops (Late at.last) [] at at a a
-stops_late at a h = record { goes = goes_none at a a refl refl refl refl refl refl refl; cause = (h, inl refl) }
-
-pub stops_room : (at : At) (a a' : Agent) → a' ≡ record a { room = a'.room } → Stops Memory [] at at a a'
-stops_room at a a' same = record {
-  goes = goes_none at a a' (ap (λ (x : Agent). x.log) same) (ap (λ (x : Agent). x.number) same) (ap (λ (x : Agent). x.anchor) same) (ap (λ (x : Agent). x.starts) same) (ap (λ (x : Agent). x.earlier) same) (ap (λ (x : Agent). x.hands) same) (ap (λ (x : Agent). x.told) same);
-  cause = tt;
-}
-
 -- ending says what was in hand
 pub ended_none : (a : Agent) (n : ℕ) (k : Known) (x : Option Known) (b : Agent) → x ≡ Some k → HasEnded a n None x b → GaveBack a n k b
 ended_none a n k x b is h = subst (λ y. HasEnded a n None y b) is h
 
 ended_some : (a : Agent) (n : ℕ) (k : Known) (e : Entry) (x : Option Known) (b : Agent) → x ≡ Some k → HasEnded a n (Some e) x b → Entered a n k e b
 ended_some a n k e x b is h = subst (λ y. HasEnded a n (Some e) y b) is h
-
--- an object was taken and given back
-module _ (at : At) (a a0 a1 a2 : Agent) (n : ℕ) (k : Known) (free : a.hands n ≡ None) (room : a0 ≡ record a { room = a0.room }) (took_it : a1 ≡ took n k a0) (gave_it : HasEnded a1 n None (a1.hands n) a2) where
-  in_hand : a1.hands n ≡ Some k
-  in_hand = ap (λ (x : Agent). x.hands n) took_it ∙ at_same n (Some k) a0.hands
-
-  gave : IsButForRoom (gave_back n k.history a1) a2
-  gave = (ended_none a1 n k (a1.hands n) a2 in_hand gave_it).shows
-
-  hands_back : a2.hands ≡ a.hands
-  hands_back =
-      ap (λ (x : Agent). x.hands) gave.same ∙ ap (λ (x : Agent). with_at n None x.hands) took_it
-      ∙ ap (λ (x : Agent). with_at n None (with_at n (Some k) x.hands)) room ∙ put_back n k a.hands free
-
-  pub goes_back : Goes [] at at a a2
-  goes_back = goes_none at a a2
-      (ap (λ (x : Agent). x.log) gave.same ∙ ap (λ (x : Agent). x.log) took_it ∙ ap (λ (x : Agent). x.log) room)
-      (ap (λ (x : Agent). x.number) gave.same ∙ ap (λ (x : Agent). x.number) took_it ∙ ap (λ (x : Agent). x.number) room)
-      (ap (λ (x : Agent). x.anchor) gave.same ∙ ap (λ (x : Agent). x.anchor) took_it ∙ ap (λ (x : Agent). x.anchor) room)
-      (ap (λ (x : Agent). x.starts) gave.same ∙ ap (λ (x : Agent). x.starts) took_it ∙ ap (λ (x : Agent). x.starts) room)
-      (ap (λ (x : Agent). x.earlier) gave.same ∙ ap (λ (x : Agent). x.earlier) took_it ∙ ap (λ (x : Agent). x.earlier) room)
-      hands_back
-      (ap (λ (x : Agent). x.told) gave.same ∙ ap (λ (x : Agent). x.told) took_it ∙ ap (λ (x : Agent). x.told) room)
-
-  pub is_back : IsBack a2 n k.history
-  is_back = ap (λ (x : Agent). x.back) gave.same
-
-  pub stops_memory : Stops Memory [] at at a a2
-  stops_memory = record { goes = goes_back; cause = tt }
-
-  pub stops_object : (t : ℕ) → t ≡ last_stamp k.history → 2 ^ 63 ≤ t → Stops (Late t) [] at at a a2
-  stops_object t is late = record { goes = goes_back; cause = (late, inr (n, (k.history, is_back, is))) }
 
 -- ---- one turn
 
@@ -227,31 +184,3 @@ module _ (at : At) (n : ℕ) (a a1 : Agent) (o : Object) (d : Deed) (e : Entry) 
     where
       g : Entered a1 n (known_of o) e a2
       g = ended_some a1 n (known_of o) e (a1.hands n) a2 in_it gave_it
-
--- ---- an open turn ends without an entry
-
-module _ (at : At) (n : ℕ) (a a1 a2 : Agent) (o : Object) (opens : Opens at n a a1 o) (free : a.hands n ≡ None) where
-  pub can_give : CanEnd a1 n o None (a1.hands n)
-  can_give = subst (λ x. CanEnd a1 n o None x) (sym (has at n a a1 o opens))
-      (record {
-        start = ap (λ (x : Agent). x.starts n) opens.same ∙ opens.found.start;
-        history = refl;
-        machine = subst (λ (x : Agent). IsOfMachine x.anchor.shape x.anchor.home o) (sym opens.same) opens.found.machine;
-      })
-
-  module _ (gave_it : HasEnded a1 n None (a1.hands n) a2) where
-    gave_open : IsButForRoom (gave_back n (history_of o) a1) a2
-    gave_open = (ended_none a1 n (known_of o) (a1.hands n) a2 (has at n a a1 o opens) gave_it).shows
-
-    pub goes_given : Goes [] at at a a2
-    goes_given = goes_none at a a2
-        (ap (λ (x : Agent). x.log) gave_open.same ∙ ap (λ (x : Agent). x.log) opens.same)
-        (ap (λ (x : Agent). x.number) gave_open.same ∙ ap (λ (x : Agent). x.number) opens.same)
-        (ap (λ (x : Agent). x.anchor) gave_open.same ∙ ap (λ (x : Agent). x.anchor) opens.same)
-        (ap (λ (x : Agent). x.starts) gave_open.same ∙ ap (λ (x : Agent). x.starts) opens.same)
-        (ap (λ (x : Agent). x.earlier) gave_open.same ∙ ap (λ (x : Agent). x.earlier) opens.same)
-        (ap (λ (x : Agent). x.hands) gave_open.same ∙ ap (λ (x : Agent). with_at n None x.hands) opens.same ∙ put_back n (known_of o) a.hands free)
-        (ap (λ (x : Agent). x.told) gave_open.same ∙ ap (λ (x : Agent). x.told) opens.same)
-
-    pub stops_given : Stops Memory [] at at a a2
-    stops_given = record { goes = goes_given; cause = tt }

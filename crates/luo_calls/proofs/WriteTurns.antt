@@ -1,16 +1,16 @@
 -- What the turns of a write come to.
-use Rattle.std.proofs.Common.{◌≡◌, ◌≢◌, ℕ, ◌+◌, ◌-◌, ◌*◌, ◌/◌, ◌^◌, ◌<◌, ◌≤◌, Bool, true, false, not, ◌&&◌, ◌||◌, ◌==◌, nat_lt, nat_le, List, [], ◌∷◌, ◌++◌, length, map, filter, refl, sym, ap, subst, ◌∙◌, arith, IsTrue, if◌then◌else◌, zero, suc}
-use Rattle.std.specs.Prelude.{Option, None, Some, MatchOption, option_map}
+use Rattle.std.proofs.Common.{◌≡◌, ◌≢◌, ℕ, ◌+◌, ◌-◌, ◌*◌, ◌/◌, ◌^◌, ◌<◌, ◌≤◌, Bool, true, false, not, ◌&&◌, ◌||◌, ◌==◌, nat_lt, nat_le, List, [], ◌∷◌, ◌++◌, length, map, filter, refl, sym, ap, subst, ◌∙◌, arith, IsTrue, if◌then◌else◌, zero, suc, cond, nat_eq}
+use Rattle.std.specs.Prelude.{Option, None, Some, MatchOption, option_map, Result, IfOk, IfErr, OnOk, OnErr}
 use Rattle.std.proofs.lemmas.Bool.Decides.{nat_tests}
 use Rattle.ho_base.specs.declared.numbers.Pfn.{Pfn}
 use Rattle.ho_events.specs.Lists.{upto, between, pieces}
 use Rattle.ho_events.specs.File.{FileState, grows_frozen, touched_holes, holes, touched, index_bytes}
-use Rattle.ho_events.specs.declared.event.Event.TheVariants.{FileWrite}
+use Rattle.ho_events.specs.declared.event.Event.TheVariants.{FileWrite, PoolTake}
 use Rattle.ho_events.specs.declared.reply.Reply.{Reply}
-use Rattle.ho_events.specs.declared.reply.Reply.TheVariants.{Ok, SizeFrozen, NoFramesOf}
+use Rattle.ho_events.specs.declared.reply.Reply.TheVariants.{Ok, SizeFrozen, NoFramesOf, Got}
 use Rattle.ho_events.specs.declared.slip.At.{At}
-use Rattle.ho_world.specs.Acts.{Claim}
-use Rattle.ho_world.specs.Logs.{deed_at}
+use Rattle.ho_world.specs.Acts.{Claim, IsFile}
+use Rattle.ho_world.specs.Logs.{deed_at, Deed}
 use Rattle.phys_frames.specs.Homes.{HomeId}
 use Rattle.phys_frames.specs.Memory.{AreFills, AreOf, FolioValue, first_frames, zeroed}
 use Rattle.memfd_file.specs.Files.{facts_of, write_answer, fills_used, fills_left}
@@ -22,28 +22,20 @@ use Rattle.ho_base.specs.declared.items.Items.{Items}
 use Rattle.ho_base.specs.declared.numbers.FileNo.{FileNo}
 use Rattle.ho_base.specs.declared.numbers.Kind.TheVariants.{Memfd}
 use Rattle.ho_base.specs.declared.numbers.Order.{Order}
-use Rattle.ho_events.specs.declared.event.Event.TheVariants.{PoolTake}
-use Rattle.ho_events.specs.declared.reply.Reply.TheVariants.{Got}
-use Rattle.ho_world.specs.Acts.{IsFile}
 use Rattle.luo_calls.specs.Memfds.{IsMemfd, IsPlainReply, TouchesHoles}
-use Rattle.luo_calls.specs.Wrote.{write_deeds}
+use Rattle.luo_calls.specs.Wrote.{write_deeds, IsTaking, IsWrote}
 use Rattle.luo_calls.specs.declared.turns.write.Wrote.TheVariants.{Plain, Starved, Filled}
 use Rattle.std.specs.Prelude as result
-use Rattle.std.proofs.Common.{cond, nat_eq}
 use Rattle.std.proofs.lemmas.List.{length-append, length-map}
 use Rattle.ho_base.specs.declared.limits.TheConstants.{PAGE_BYTES, FILE_BYTES}
 use Rattle.ho_world.specs.Sequences.Files.{fits_range}
 use Rattle.machine_core.specs.declared.object.Object.{Object}
 use Rattle.luo_calls.specs.Opened.{Opens, without}
-use Rattle.luo_calls.specs.Wrote.{IsTaking, IsWrote}
-use Rattle.luo_calls.proofs.Nested.{outer_goes, outer_sticks}
-use Rattle.std.specs.Prelude.{Result, IfOk, IfErr, OnOk, OnErr}
-use Rattle.ho_world.specs.Logs.{Deed}
+use Rattle.luo_calls.proofs.Nested.{outer_goes, outer_sticks, sticks_next}
 use Rattle.luo_calls.specs.declared.turns.write.Wrote.{Wrote}
 use Rattle.luo_calls.specs.declared.stuck.Stopped.{Stopped}
 use Rattle.luo_calls.specs.Doing.{SticksAfter}
-use Rattle.luo_calls.specs.Stuck.{Sticks}
-use Rattle.luo_calls.proofs.Nested.{sticks_next}
+use Rattle.luo_calls.specs.Stuck.{Sticks, turn_of}
 use Rattle.luo_calls.proofs.Chains.{then_goes}
 
 -- the same bytes and runs
@@ -144,14 +136,18 @@ pub filled_goes : (file : FileNo) (o : Order) (off holes : ℕ) (bytes : List �
 filled_goes file o off holes bytes runs at at1 at2 b b1 b2 count h k =
     then_goes _ _ at at1 at2 b b1 b2 (subst (λ m. Goes (deed_at pool_no (IsFile file Memfd o ∷ []) (PoolTake o m) (Got runs.value) ∷ []) at at1 b b1) (sym count) h) k
 
+pub taken_so : (file : FileNo) (o : Order) (holes : ℕ) (runs : List Pfn) (at at1 : At) (b b1 : Agent) → length runs ≡ holes → Goes (deed_at pool_no (IsFile file Memfd o ∷ []) (PoolTake o holes) (Got runs) ∷ []) at at1 b b1 → Goes (deed_at pool_no (IsFile file Memfd o ∷ []) (PoolTake o (length runs)) (Got runs) ∷ []) at at1 b b1
+taken_so file o holes runs at at1 b b1 count h = subst (λ m. Goes (deed_at pool_no (IsFile file Memfd o ∷ []) (PoolTake o m) (Got runs) ∷ []) at at1 b b1) (sym count) h
+
 pub filled_comes : (file : FileNo) (o : Order) (off holes : ℕ) (bytes : List ℕ) (runs : Snapshot (Items Pfn)) (at at1 at2 : At) (b b1 b2 : Agent) (r : Result Wrote Stopped) → length runs.value ≡ holes → Goes (deed_at pool_no (IsFile file Memfd o ∷ []) (PoolTake o holes) (Got runs.value) ∷ []) at at1 b b1 → IfOk r (λ w. w ≡ Filled o runs) → OnOk r (Goes (deed_at (file_no file.0) (IsFile file Memfd o ∷ []) (FileWrite off bytes runs.value) Ok ∷ []) at1 at2 b1 b2) → IfOk r (λ w. Goes (write_deeds file off bytes w) at at2 b b2)
 filled_comes file o off holes bytes runs at at1 at2 b b1 b2 (result.Ok w) count h is k =
     subst (λ (x : Wrote). Goes (write_deeds file off bytes x) at at2 b b2) (sym is) (filled_goes file o off holes bytes runs at at1 at2 b b1 b2 count h k)
 filled_comes file o off holes bytes runs at at1 at2 b b1 b2 (result.Err s) count h is k = tt
 
-pub filled_stops : (ds : List Deed) (at at1 at2 : At) (b b1 b2 : Agent) (r : Result Wrote Stopped) → Goes ds at at1 b b1 → OnErr r (at2 ≡ at1) → IfErr r (λ s. Sticks at1 s.stuck b1 b2) → IfErr r (λ s. SticksAfter s.stuck at at2 b b2)
-filled_stops ds at at1 at2 b b1 b2 (result.Ok w) h same s = tt
-filled_stops ds at at1 at2 b b1 b2 (result.Err x) h same s = sticks_next ds at at1 at2 x.stuck b b1 b2 h same s
+-- a write whose runs were taken can't be ended
+pub filled_stops : {W : List Deed → Type 0} → (ds due : List Deed) → W (ds ++ due) → (at at1 at2 : At) (b b1 b2 : Agent) (r : Result Wrote Stopped) → Goes ds at at1 b b1 → OnErr r (at2 ≡ at1) → IfErr r (λ s. Sticks at1 (turn_of due) s.stuck b1 b2) → IfErr r (λ s. SticksAfter W s.stuck at at2 b b2)
+filled_stops ds due front at at1 at2 b b1 b2 (result.Ok w) h same s = tt
+filled_stops ds due front at at1 at2 b b1 b2 (result.Err x) h same s = sticks_next ds due front at at1 at2 x.stuck b b1 b2 h same s
 
 pub given_home : (h k : HomeId) (r : Result Wrote Stopped) → k ≡ h → IfErr r (λ s. AreOf k s.folios.items) → IfErr r (λ s. AreOf h s.folios.items)
 given_home h k (result.Ok w) e g = tt
@@ -163,7 +159,7 @@ pub outer_comes : (file : FileNo) (off : ℕ) (bytes : List ℕ) (at at1 : At) (
 outer_comes file off bytes at at1 a a1 a2 o (result.Ok w) opens free h = outer_goes _ at at1 (file_no file.0) a a1 a2 o opens free h
 outer_comes file off bytes at at1 a a1 a2 o (result.Err s) opens free h = tt
 
-pub outer_stops : (n : ℕ) (at at1 : At) (a a1 a2 : Agent) (o : Object) (r : Result Wrote Stopped) → Opens at n a a1 o → a.hands n ≡ None → IfErr r (λ s. SticksAfter s.stuck at at1 (without n a1) a2) → IfErr r (λ s. SticksAfter s.stuck at at1 a a2)
+pub outer_stops : {W : List Deed → Type 0} → (n : ℕ) (at at1 : At) (a a1 a2 : Agent) (o : Object) (r : Result Wrote Stopped) → Opens at n a a1 o → a.hands n ≡ None → IfErr r (λ s. SticksAfter W s.stuck at at1 (without n a1) a2) → IfErr r (λ s. SticksAfter W s.stuck at at1 a a2)
 outer_stops n at at1 a a1 a2 o (result.Ok w) opens free h = tt
 outer_stops n at at1 a a1 a2 o (result.Err s) opens free h = outer_sticks at at1 s.stuck n a a1 a2 o opens free h
 
@@ -207,6 +203,12 @@ taking_fits f o off len h same within count some = rw (sym same, first, second, 
 
     third : nat_le h (pieces (off + len) (PAGE_BYTES * 2 ^ f.order) - off / (PAGE_BYTES * 2 ^ f.order)) ≡ true
     third = let less : length (touched_holes f off len) ≤ pieces (off + len) (index_bytes f) - off / index_bytes f = few_touched f off len in grind (arith, nat_tests)
+
+-- a memfd in hand may touch so many holes
+pub holes_fit : (x : Option (Option FileState)) (o : Order) (off len holes : ℕ) → off + len ≤ PAGE_BYTES → MatchOption x ⊥ (λ s. IsMemfd (option_map facts_of s) o) → MatchOption x ⊥ (λ s. MatchOption s ⊥ (λ f. TouchesHoles f off len holes)) → IsTrue (fits_range o off len holes)
+holes_fit None o off len holes within m t = absurd m
+holes_fit (Some None) o off len holes within m t = absurd t
+holes_fit (Some (Some f)) o off len holes within m t = taking_fits f o off len holes (ap (λ (x : Order). x.0) m.1) within t.count t.some
 
 pub taking_wrote : (x : Option (Option FileState)) (o : Order) (off len holes : ℕ) (r : Result Wrote Stopped) → off + len ≤ PAGE_BYTES → IfOk r (IsTaking o holes) → MatchOption x ⊥ (λ s. IsMemfd (option_map facts_of s) o) → MatchOption x ⊥ (λ s. MatchOption s ⊥ (λ f. holes ≡ length (touched_holes f off len))) → 0 < holes → IfOk r (IsWrote off len)
 taking_wrote None o off len holes r within h m t some = absurd m

@@ -11,4 +11,4 @@ use Rattle.luo_calls.specs.declared.commands.command.Outcome.TheVariants.{Done, 
 -- it came to its end with this reply and last stamp; or it halts, and the folios that it gives up are of this machine
 abbrev pub CameTo : Labels → Labels → Command → At → Agent → Agent → Outcome → Type 0
 CameTo labels labels' command at a a' (Done reply last) = Comes labels labels' command reply at (record at { last = last }) a a'
-CameTo labels labels' command at a a' (Halted folios halt) = (at' : At) × (Halts labels labels' halt at at' a a' × AreOf a.anchor.home folios.items)
+CameTo labels labels' command at a a' (Halted folios halt) = (at' : At) × (Halts labels labels' command halt at at' a a' × AreOf a.anchor.home folios.items)

@@ -1,7 +1,7 @@
 -- How far a `close` is with the files of its session.
 use Rattle.std.specs.Prelude.{◌≡◌, ℕ, ◌<◌, ◌==◌, Bool, List, [], ◌∷◌, ◌++◌, map, flat_map, None}
 use Rattle.std.specs.List.{list_any}
-use Rattle.ho_base.specs.Objects.{pool_no, registry_no, file_no}
+use Rattle.ho_base.specs.Objects.{pool_no, registry_no, file_no, session_no}
 use Rattle.ho_base.specs.declared.limits.TheConstants.{FILES}
 use Rattle.ho_base.specs.declared.numbers.FileNo.{FileNo}
 use Rattle.ho_base.specs.declared.numbers.Order.{Order}
@@ -9,12 +9,12 @@ use Rattle.ho_base.specs.declared.numbers.Pfn.{Pfn}
 use Rattle.ho_base.specs.declared.numbers.SlotNo.{SlotNo}
 use Rattle.ho_base.specs.declared.numbers.Token.{Token}
 use Rattle.ho_events.specs.Lists.{are_distinct}
-use Rattle.ho_events.specs.declared.event.Event.TheVariants.{PoolGive, PoolUnmark, RegFindOut, RegFreeFile}
+use Rattle.ho_events.specs.declared.event.Event.TheVariants.{PoolGive, PoolUnmark, RegDropName, RegFindOut, RegFreeFile, SessionClose}
 use Rattle.ho_events.specs.declared.reply.Reply.{Reply}
 use Rattle.ho_events.specs.declared.reply.Reply.TheVariants.{Ok, OkSlot, KeptRuns, Gone}
 use Rattle.ho_events.specs.declared.slip.At.{At}
-use Rattle.ho_world.specs.Acts.{Act, Reference, pool, registry, unless_empty, ending}
-use Rattle.ho_world.specs.Logs.{Deed, deed_of, end_with}
+use Rattle.ho_world.specs.Acts.{Act, Claim, Reference, pool, registry, unless_empty, ending}
+use Rattle.ho_world.specs.Logs.{Deed, deed_at, deed_of, end_with}
 use Rattle.ho_world.specs.Sequences.Parts.{Part, part_reference, close_part, CloseOutcome, close_acts}
 use Rattle.machine_core.specs.Agents.{Agent}
 use Rattle.machine_core.specs.Turns.{Goes}
@@ -61,6 +61,17 @@ pub record HasClosed (files : List Kept) (at at' : At) (a a' : Agent) : Type 0 w
   pub parts : List Part
   pub listed : map part_reference parts ≡ map kept_reference files
   pub goes : Goes (deeds (flat_map close_part parts)) at at' a a'
+
+-- these are the deeds of the parts of these files, in whichever way each comes out
+pub record ArePartsOf (files : List Kept) (ds : List Deed) : Type 0 where
+  pub parts : List Part
+  pub listed : map part_reference parts ≡ map kept_reference files
+  pub deeds_are : ds ≡ deeds (flat_map close_part parts)
+
+-- the end of a session whose files' parts are done, its name's, and the command's
+abbrev pub session_ends : SlotNo → List ℕ → List Claim → List Deed
+session_ends slot name claims =
+    deed_at (session_no slot.0) claims (SessionClose name) Ok ∷ deed_at registry_no [] (RegDropName name) Ok ∷ end_with Ok ∷ []
 
 -- a `close` came to its end with this reply, from the question for the slot on
 pub record ClosesSlot (name : List ℕ) (slot : SlotNo) (reply : Reply) (at at' : At) (a a' : Agent) : Type 0 where

@@ -1,5 +1,5 @@
 -- What a command of an agent does: a whole sequence of it, or some deeds before it stops.
-use Rattle.std.specs.Prelude.{◌≡◌, List, Some}
+use Rattle.std.specs.Prelude.{◌≡◌, List, ◌++◌, Some}
 use Rattle.ho_events.specs.declared.command.Command.{Command}
 use Rattle.ho_events.specs.declared.reply.Reply.{Reply}
 use Rattle.ho_events.specs.declared.slip.At.{At}
@@ -19,8 +19,14 @@ pub record Comes (labels labels' : Labels) (command : Command) (reply : Reply) (
   pub goes : Goes (deeds_of sequence) at at' a a'
   pub labels_are : labels' ≡ labels_after labels command sequence
 
--- the agent halts after some deeds of its command, and its labels stay
-pub record Halts (labels labels' : Labels) (halt : Halt) (at at' : At) (a a' : Agent) : Type 0 where
+-- the agent halts in the middle of a command: the deeds that it did are the front of a whole sequence of the command, and
+-- the cause is at the next one of that sequence; its labels stay
+pub record Halts (labels labels' : Labels) (command : Command) (halt : Halt) (at at' : At) (a a' : Agent) : Type 0 where
+  pub outcome : Outcome
+  pub sequence : Sequence
+  pub is_one : command_acts labels command outcome ≡ Some sequence
   pub deeds : List Deed
-  pub stops : Stops halt deeds at at' a a'
+  pub due : List Deed
+  pub front : deeds ++ due ≡ deeds_of sequence
+  pub stops : Stops halt deeds due at at' a a'
   pub labels_stay : labels' ≡ labels

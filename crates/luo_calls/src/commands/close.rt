@@ -1,18 +1,19 @@
 //! The command `close`.
 
-ghost use Rattle.std.specs.Prelude.{◌≡◌, ◌<◌, ◌∷◌, [], IfOk, IfErr, OnOk, IsTrue, List, false};
+ghost use Rattle.std.specs.Prelude.{◌≡◌, ◌<◌, IfOk, IfErr, OnOk, IsTrue, List, false};
 ghost use Rattle.ho_base.specs.Objects.{registry_no, session_no};
 ghost use Rattle.ho_events.specs.Session.{is_out};
 ghost use Rattle.ho_world.specs.Acts.{Claim};
-ghost use Rattle.ho_world.specs.Logs.{AreClaimed, deed_at, end_with};
+ghost use Rattle.ho_world.specs.Logs.{AreClaimed};
 ghost use Rattle.ho_world.specs.Sequences.{Labels};
+ghost use Rattle.ho_world.specs.Sequences.Parts.{close_acts};
 ghost use Rattle.phys_frames.specs.Memory.{AreOf};
 ghost use Rattle.session_core.specs.SessionValues.{SessionIs};
 ghost use Rattle.machine_core.specs.Agents.{Agent, begun, no_hands};
 ghost use Rattle.machine_core.specs.Commands.{Comes, Halts};
 ghost use Rattle.machine_core.specs.Turns.{IsReady, Goes};
-ghost use Rattle.luo_calls.specs.Closing.{ClosesSlot, HasFree};
-ghost use Rattle.luo_calls.specs.Doing.{SticksAfter};
+ghost use Rattle.luo_calls.specs.Closing.{ClosesSlot, HasFree, session_ends};
+ghost use Rattle.luo_calls.specs.Doing.{AreRest, AreWhole, SticksAfter, slot_found};
 ghost use Rattle.luo_calls.specs.Opened.{Holds, without};
 
 use crate::commands::close_files::{are_all_different, close_files};
@@ -26,7 +27,6 @@ use ho_base::limits::OUT_SLOTS;
 use ho_base::name::Name;
 use ho_base::numbers::{ObjectNo, SlotNo};
 use ho_events::command::Command;
-use ho_events::event::Event;
 use ho_events::reply::Reply;
 use ho_events::slip::{At, Listed};
 use machine_core::{Halt, Object, Reach};
@@ -50,7 +50,7 @@ pub fn close<R: Reach>(
     requires ready { IsReady at.old (R.shown reach.old) }
     requires free { (R.shown reach.old).hands ≡ no_hands }
     ensures comes { IfOk result (λ reply. (labels : Labels) → Comes labels labels (Command.Close name) reply at.old at.new (R.shown reach.old) (R.shown reach.new)) }
-    ensures halts { IfErr result (λ h. (labels : Labels) → Halts labels labels h.1 at.old at.new (R.shown reach.old) (R.shown reach.new)) }
+    ensures halts { IfErr result (λ h. (labels : Labels) → Halts labels labels (Command.Close name) h.1 at.old at.new (R.shown reach.old) (R.shown reach.new)) }
     ensures given_up { IfErr result (λ h. AreOf (R.shown reach.old).anchor.home h.0.items) }
 {
     match close_turns(alloc, reach, at, name) {
@@ -69,7 +69,7 @@ fn close_turns<R: Reach>(
     requires ready { IsReady at.old (R.shown reach.old) }
     requires free { (R.shown reach.old).hands ≡ no_hands }
     ensures comes { IfOk result (λ reply. (labels : Labels) → Comes labels labels (Command.Close name) reply at.old at.new (R.shown reach.old) (R.shown reach.new)) }
-    ensures stopped { IfErr result (λ s. SticksAfter s.stuck at.old at.new (R.shown reach.old) (R.shown reach.new)) }
+    ensures stopped { IfErr result (λ s. SticksAfter (AreWhole (close_acts name)) s.stuck at.old at.new (R.shown reach.old) (R.shown reach.new)) }
     ensures given_up { IfErr result (λ s. AreOf (R.shown reach.old).anchor.home s.folios.items) }
 {
     let found = match find_out(alloc, reach, at, name) {
@@ -98,7 +98,7 @@ fn close_slot<R: Reach>(
     requires free { (R.shown reach.old).hands ≡ no_hands }
     requires slot { slot.0 < OUT_SLOTS }
     ensures closes { IfOk result (λ reply. ClosesSlot name slot reply at.old at.new (R.shown reach.old) (R.shown reach.new)) }
-    ensures stopped { IfErr result (λ s. SticksAfter s.stuck at.old at.new (R.shown reach.old) (R.shown reach.new)) }
+    ensures stopped { IfErr result (λ s. SticksAfter (AreRest (close_acts name) (slot_found name slot)) s.stuck at.old at.new (R.shown reach.old) (R.shown reach.new)) }
     ensures given_up { IfErr result (λ s. AreOf (R.shown reach.old).anchor.home s.folios.items) }
 {
     let (_, held) = match open_session(alloc, reach, *at, slot, Listed::nothing()) {
@@ -129,7 +129,7 @@ fn close_other<R: Reach>(
     requires holds { Holds (session_no slot.0) (R.shown reach.old) (Object.Session held) }
     requires other { SessionIs held (λ s. is_out s name ≡ false) }
     ensures closes { IfOk result (λ reply. ClosesSlot name slot reply at.old at.new (without (session_no slot.0) (R.shown reach.old)) (R.shown reach.new)) }
-    ensures sticks { IfErr result (λ stuck. SticksAfter stuck at.old at.new (without (session_no slot.0) (R.shown reach.old)) (R.shown reach.new)) }
+    ensures sticks { IfErr result (λ stuck. SticksAfter (AreRest (close_acts name) (slot_found name slot)) stuck at.old at.new (without (session_no slot.0) (R.shown reach.old)) (R.shown reach.new)) }
 {
     end_session(alloc, reach, at, slot, held, name)?;
     end_command(reach, at, Reply::NoSession)?;
@@ -151,7 +151,7 @@ fn close_out<R: Reach>(
     requires holds { Holds (session_no slot.0) (R.shown reach.old) (Object.Session held) }
     requires out { SessionIs held (λ s. IsTrue (is_out s name)) }
     ensures closes { IfOk result (λ reply. ClosesSlot name slot reply at.old at.new (without (session_no slot.0) (R.shown reach.old)) (R.shown reach.new)) }
-    ensures stopped { IfErr result (λ s. SticksAfter s.stuck at.old at.new (without (session_no slot.0) (R.shown reach.old)) (R.shown reach.new)) }
+    ensures stopped { IfErr result (λ s. SticksAfter (AreRest (close_acts name) (slot_found name slot)) s.stuck at.old at.new (without (session_no slot.0) (R.shown reach.old)) (R.shown reach.new)) }
     ensures given_up { IfErr result (λ s. AreOf (R.shown reach.old).anchor.home s.folios.items) }
 {
     let number = ObjectNo::of_session(slot);
@@ -188,8 +188,8 @@ fn end_out<R: Reach>(
     requires slot { slot.0 < OUT_SLOTS }
     requires holds { Holds (session_no slot.0) (R.shown reach.old) (Object.Session held) }
     requires out { SessionIs held (λ s. IsTrue (is_out s name)) }
-    ensures goes { OnOk result ((claims : List Claim) → AreClaimed (begun (R.shown reach.old)) (R.shown reach.old).hands claims → Goes (deed_at (session_no slot.0) claims (Event.SessionClose name) Reply.Ok ∷ deed_at registry_no [] (Event.RegDropName name) Reply.Ok ∷ end_with Reply.Ok ∷ []) at.old at.new (without (session_no slot.0) (R.shown reach.old)) (R.shown reach.new)) }
-    ensures sticks { IfErr result (λ stuck. SticksAfter stuck at.old at.new (without (session_no slot.0) (R.shown reach.old)) (R.shown reach.new)) }
+    ensures goes { OnOk result ((claims : List Claim) → AreClaimed (begun (R.shown reach.old)) (R.shown reach.old).hands claims → Goes (session_ends slot name claims) at.old at.new (without (session_no slot.0) (R.shown reach.old)) (R.shown reach.new)) }
+    ensures sticks { IfErr result (λ stuck. (claims : List Claim) → AreClaimed (begun (R.shown reach.old)) (R.shown reach.old).hands claims → SticksAfter (λ ds. ds ≡ session_ends slot name claims) stuck at.old at.new (without (session_no slot.0) (R.shown reach.old)) (R.shown reach.new)) }
 {
     end_session(alloc, reach, at, slot, held, name)?;
     drop_name(alloc, reach, at, name)?;

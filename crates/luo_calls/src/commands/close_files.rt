@@ -8,10 +8,10 @@ ghost use Rattle.phys_frames.specs.Memory.{AreOf, first_frames};
 ghost use Rattle.session_core.specs.SessionShown.{AreFiles};
 ghost use Rattle.machine_core.specs.Agents.{Agent};
 ghost use Rattle.machine_core.specs.Turns.{IsReady, Goes};
-ghost use Rattle.luo_calls.specs.Closing.{HasClosed, HasFree, after_unpin, deeds, given_back, has_number, have_own_numbers, unmarked};
+ghost use Rattle.luo_calls.specs.Closing.{ArePartsOf, HasClosed, HasFree, after_unpin, deeds, given_back, has_number, have_own_numbers, unmarked};
 ghost use Rattle.luo_calls.specs.Doing.{SticksAfter};
 ghost use Rattle.luo_calls.specs.Replies.{IsGivenUp, IsUnpinReply};
-ghost use Rattle.luo_calls.specs.Stuck.{Sticks};
+ghost use Rattle.luo_calls.specs.Stuck.{Sticks, turn_of};
 
 use crate::stuck::{Stopped, Stuck, empty_handed};
 use crate::turns::file::unpin;
@@ -66,7 +66,7 @@ fn unmark_any<R: Reach>(
     requires single { order.0 ≡ 0 }
     requires few { length runs.now < 2 ^ 32 }
     ensures goes { OnOk result (Goes (deeds (unmarked order runs.now)) at.old at.new (R.shown reach.old) (R.shown reach.new)) }
-    ensures sticks { IfErr result (λ stuck. Sticks at.old stuck (R.shown reach.old) (R.shown reach.new)) }
+    ensures sticks { IfErr result (λ stuck. Sticks at.old (turn_of (deeds (unmarked order runs.now))) stuck (R.shown reach.old) (R.shown reach.new)) }
     ensures same_at { OnErr result (at.new ≡ at.old) }
 {
     match runs {
@@ -90,7 +90,7 @@ pub fn give_any<R: Reach>(
     requires of_home { AreOf (R.shown reach.old).anchor.home folios.old.items }
     ensures goes { OnOk result (Goes (deeds (given_back order (first_frames folios.old.items))) at.old at.new (R.shown reach.old) (R.shown reach.new)) }
     ensures given { OnOk result (folios.new.items ≡ []) }
-    ensures sticks { IfErr result (λ stuck. Sticks at.old stuck (R.shown reach.old) (R.shown reach.new)) }
+    ensures sticks { IfErr result (λ stuck. Sticks at.old (turn_of (deeds (given_back order (first_frames folios.old.items)))) stuck (R.shown reach.old) (R.shown reach.new)) }
     ensures same_at { OnErr result (at.new ≡ at.old) }
     ensures kept { OnErr result (folios.new.items ≡ folios.old.items) }
 {
@@ -118,7 +118,7 @@ fn close_gone<R: Reach>(
     requires given { IsGivenUp (R.shown reach.old).anchor.home (Reply.Gone runs.now) given.old.items }
     ensures goes { OnOk result (Goes (deeds (after_unpin file order (Reply.Gone runs.now))) at.old at.new (R.shown reach.old) (R.shown reach.new)) }
     ensures given { OnOk result (given.new.items ≡ []) }
-    ensures sticks { IfErr result (λ stuck. SticksAfter stuck at.old at.new (R.shown reach.old) (R.shown reach.new)) }
+    ensures sticks { IfErr result (λ stuck. SticksAfter (λ ds. ds ≡ deeds (after_unpin file order (Reply.Gone runs.now))) stuck at.old at.new (R.shown reach.old) (R.shown reach.new)) }
     ensures given_up { OnErr result (AreOf (R.shown reach.old).anchor.home given.new.items) }
 {
     unmark_any(alloc, reach, at, order, runs)?;
@@ -146,7 +146,7 @@ fn close_rest<R: Reach>(
     requires given { IsGivenUp (R.shown reach.old).anchor.home reply given.old.items }
     ensures goes { OnOk result (Goes (deeds (after_unpin file order reply)) at.old at.new (R.shown reach.old) (R.shown reach.new)) }
     ensures given { OnOk result (given.new.items ≡ []) }
-    ensures sticks { IfErr result (λ stuck. SticksAfter stuck at.old at.new (R.shown reach.old) (R.shown reach.new)) }
+    ensures sticks { IfErr result (λ stuck. SticksAfter (λ ds. ds ≡ deeds (after_unpin file order reply)) stuck at.old at.new (R.shown reach.old) (R.shown reach.new)) }
     ensures given_up { OnErr result (AreOf (R.shown reach.old).anchor.home given.new.items) }
 {
     match reply {
@@ -167,7 +167,7 @@ fn close_file<R: Reach>(
     requires free { HasFree (R.shown reach.old) }
     requires file { kept.1.0 < FILES }
     ensures closed { OnOk result (HasClosed (kept ∷ []) at.old at.new (R.shown reach.old) (R.shown reach.new)) }
-    ensures stopped { IfErr result (λ s. SticksAfter s.stuck at.old at.new (R.shown reach.old) (R.shown reach.new)) }
+    ensures stopped { IfErr result (λ s. SticksAfter (ArePartsOf (kept ∷ [])) s.stuck at.old at.new (R.shown reach.old) (R.shown reach.new)) }
     ensures given_up { IfErr result (λ s. AreOf (R.shown reach.old).anchor.home s.folios.items) }
 {
     let Ok(mut given) = Vec::with_capacity(alloc, 1) else {
@@ -213,7 +213,7 @@ pub fn close_files<R: Reach>(
     requires free { HasFree (R.shown reach.old) }
     requires files { AreFiles files.now }
     ensures closed { OnOk result (HasClosed files.now at.old at.new (R.shown reach.old) (R.shown reach.new)) }
-    ensures stopped { IfErr result (λ s. SticksAfter s.stuck at.old at.new (R.shown reach.old) (R.shown reach.new)) }
+    ensures stopped { IfErr result (λ s. SticksAfter (ArePartsOf files.now) s.stuck at.old at.new (R.shown reach.old) (R.shown reach.new)) }
     ensures given_up { IfErr result (λ s. AreOf (R.shown reach.old).anchor.home s.folios.items) }
 {
     for kept in files {

@@ -2,10 +2,11 @@
 
 ghost use Rattle.std.specs.Prelude.{◌≡◌, IfOk, IfErr};
 ghost use Rattle.ho_world.specs.Sequences.{Labels};
+ghost use Rattle.ho_world.specs.Sequences.Sessions.{create_acts};
 ghost use Rattle.machine_core.specs.Agents.{Agent, no_hands};
 ghost use Rattle.machine_core.specs.Commands.{Comes, Halts};
 ghost use Rattle.machine_core.specs.Turns.{IsReady};
-ghost use Rattle.luo_calls.specs.Doing.{SticksAfter};
+ghost use Rattle.luo_calls.specs.Doing.{AreWhole, SticksAfter};
 
 use crate::stuck::{Stuck, release};
 use crate::turns::done::end_command;
@@ -29,7 +30,7 @@ pub fn create<R: Reach>(
     requires ready { IsReady at.old (R.shown reach.old) }
     requires free { (R.shown reach.old).hands ≡ no_hands }
     ensures comes { IfOk result (λ reply. (labels : Labels) → Comes labels labels (Command.Create name) reply at.old at.new (R.shown reach.old) (R.shown reach.new)) }
-    ensures halts { IfErr result (λ halt. (labels : Labels) → Halts labels labels halt at.old at.new (R.shown reach.old) (R.shown reach.new)) }
+    ensures halts { IfErr result (λ halt. (labels : Labels) → Halts labels labels (Command.Create name) halt at.old at.new (R.shown reach.old) (R.shown reach.new)) }
 {
     match create_turns(alloc, reach, at, name) {
         Ok(reply) => Ok(reply),
@@ -47,7 +48,7 @@ fn create_turns<R: Reach>(
     requires ready { IsReady at.old (R.shown reach.old) }
     requires free { (R.shown reach.old).hands ≡ no_hands }
     ensures comes { IfOk result (λ reply. (labels : Labels) → Comes labels labels (Command.Create name) reply at.old at.new (R.shown reach.old) (R.shown reach.new)) }
-    ensures sticks { IfErr result (λ stuck. SticksAfter stuck at.old at.new (R.shown reach.old) (R.shown reach.new)) }
+    ensures sticks { IfErr result (λ stuck. SticksAfter (AreWhole (create_acts name)) stuck at.old at.new (R.shown reach.old) (R.shown reach.new)) }
 {
     match create_name(alloc, reach, at, name)? {
         Reply::OkSlot(slot) => {

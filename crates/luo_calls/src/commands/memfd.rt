@@ -1,10 +1,11 @@
 //! The command `memfd`.
 
 ghost use Rattle.std.specs.Prelude.{◌≡◌, IfOk, IfErr, OnErr};
+ghost use Rattle.ho_world.specs.Sequences.Files.{memfd_acts};
 ghost use Rattle.machine_core.specs.Agents.{Agent, no_hands};
 ghost use Rattle.machine_core.specs.Commands.{Comes, Halts};
 ghost use Rattle.machine_core.specs.Turns.{IsReady};
-ghost use Rattle.luo_calls.specs.Doing.{SticksAfter};
+ghost use Rattle.luo_calls.specs.Doing.{AreWhole, SticksAfter};
 
 use crate::stuck::{Stuck, release};
 use crate::turns::done::end_command;
@@ -32,7 +33,7 @@ pub fn memfd<R: Reach>(
     requires free { (R.shown reach.old).hands ≡ no_hands }
     requires single { order.0 ≡ 0 }
     ensures comes { IfOk result (λ reply. Comes labels.old.bound labels.new.bound (Command.Memfd label order) reply at.old at.new (R.shown reach.old) (R.shown reach.new)) }
-    ensures halts { IfErr result (λ halt. Halts labels.old.bound labels.new.bound halt at.old at.new (R.shown reach.old) (R.shown reach.new)) }
+    ensures halts { IfErr result (λ halt. Halts labels.old.bound labels.new.bound (Command.Memfd label order) halt at.old at.new (R.shown reach.old) (R.shown reach.new)) }
 {
     match memfd_turns(alloc, reach, labels, at, label, order) {
         Ok(reply) => Ok(reply),
@@ -53,7 +54,7 @@ fn memfd_turns<R: Reach>(
     requires free { (R.shown reach.old).hands ≡ no_hands }
     requires single { order.0 ≡ 0 }
     ensures comes { IfOk result (λ reply. Comes labels.old.bound labels.new.bound (Command.Memfd label order) reply at.old at.new (R.shown reach.old) (R.shown reach.new)) }
-    ensures sticks { IfErr result (λ stuck. SticksAfter stuck at.old at.new (R.shown reach.old) (R.shown reach.new)) }
+    ensures sticks { IfErr result (λ stuck. SticksAfter (AreWhole (memfd_acts order)) stuck at.old at.new (R.shown reach.old) (R.shown reach.new)) }
     ensures kept { OnErr result (labels.new.bound ≡ labels.old.bound) }
 {
     if let Err(NoMemory) = labels.reserve() {

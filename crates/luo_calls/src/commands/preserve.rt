@@ -3,15 +3,17 @@
 ghost use Rattle.std.specs.Prelude.{◌≡◌, ◌<◌, ◌^◌, ◌++◌, ◌∷◌, [], IfOk, OnOk, OnErr, IfErr, None, length};
 ghost use Rattle.ho_base.specs.Objects.{file_no, pool_no, session_no};
 ghost use Rattle.ho_world.specs.Logs.{end_with};
+ghost use Rattle.ho_world.specs.Sequences.{command_acts};
+ghost use Rattle.ho_world.specs.Sequences.Preserving.{preserve_acts};
 ghost use Rattle.session_core.specs.SessionValues.{SessionIs};
 ghost use Rattle.session_core.specs.Sessions.{refusal_of};
 ghost use Rattle.machine_core.specs.Agents.{Agent, no_hands};
 ghost use Rattle.machine_core.specs.Commands.{Comes, Halts};
 ghost use Rattle.machine_core.specs.Turns.{IsReady, Goes};
-ghost use Rattle.luo_calls.specs.Doing.{SticksAfter};
+ghost use Rattle.luo_calls.specs.Doing.{AreRest, AreWhole, SticksAfter, slot_found};
 ghost use Rattle.luo_calls.specs.Opened.{Holds, without};
 ghost use Rattle.luo_calls.specs.Preserved.{added, marked, preserve_deeds, reply_to, IsEnd, IsPreserved};
-ghost use Rattle.luo_calls.specs.Stuck.{Sticks};
+ghost use Rattle.luo_calls.specs.Stuck.{Sticks, turn_of};
 
 use crate::stuck::{Stuck, release};
 use crate::turns::done::end_command;
@@ -57,7 +59,7 @@ pub fn preserve<R: Reach>(
     requires ready { IsReady at.old (R.shown reach.old) }
     requires free { (R.shown reach.old).hands ≡ no_hands }
     ensures comes { IfOk result (λ reply. Comes labels.now.bound labels.now.bound (Command.Preserve name token label) reply at.old at.new (R.shown reach.old) (R.shown reach.new)) }
-    ensures halts { IfErr result (λ halt. Halts labels.now.bound labels.now.bound halt at.old at.new (R.shown reach.old) (R.shown reach.new)) }
+    ensures halts { IfErr result (λ halt. Halts labels.now.bound labels.now.bound (Command.Preserve name token label) halt at.old at.new (R.shown reach.old) (R.shown reach.new)) }
 {
     match preserve_turns(alloc, reach, labels, at, name, token, label) {
         Ok(reply) => Ok(reply),
@@ -78,7 +80,7 @@ fn preserve_turns<R: Reach>(
     requires ready { IsReady at.old (R.shown reach.old) }
     requires free { (R.shown reach.old).hands ≡ no_hands }
     ensures comes { IfOk result (λ reply. Comes labels.now.bound labels.now.bound (Command.Preserve name token label) reply at.old at.new (R.shown reach.old) (R.shown reach.new)) }
-    ensures sticks { IfErr result (λ stuck. SticksAfter stuck at.old at.new (R.shown reach.old) (R.shown reach.new)) }
+    ensures sticks { IfErr result (λ stuck. SticksAfter (AreWhole (command_acts labels.now.bound (Command.Preserve name token label))) stuck at.old at.new (R.shown reach.old) (R.shown reach.new)) }
 {
     let Some(file) = labels.file(label) else {
         end_command(reach, at, Reply::BadFd)?;
@@ -131,7 +133,7 @@ fn end_told<R: Reach>(reach: &mut R, at: &mut At, reply: Reply) -> Result<Reply,
     requires reply { IsEnd reply }
     ensures told { IfOk result (λ told. told ≡ reply) }
     ensures goes { OnOk result (Goes (end_with reply ∷ []) at.old at.new (R.shown reach.old) (R.shown reach.new)) }
-    ensures sticks { IfErr result (λ stuck. Sticks at.old stuck (R.shown reach.old) (R.shown reach.new)) }
+    ensures sticks { IfErr result (λ stuck. Sticks at.old None stuck (R.shown reach.old) (R.shown reach.new)) }
     ensures same_at { OnErr result (at.new ≡ at.old) }
 {
     let (last, told) = twice(reply);
@@ -155,7 +157,7 @@ fn preserve_in<R: Reach>(
     requires free { (R.shown reach.old).hands ≡ no_hands }
     ensures goes { IfOk result (λ p. Goes (preserve_deeds slot name token file p) at.old at.new (R.shown reach.old) (R.shown reach.new)) }
     ensures told { IfOk result IsPreserved }
-    ensures sticks { IfErr result (λ stuck. SticksAfter stuck at.old at.new (R.shown reach.old) (R.shown reach.new)) }
+    ensures sticks { IfErr result (λ stuck. SticksAfter (AreRest (preserve_acts name token file) (slot_found name slot)) stuck at.old at.new (R.shown reach.old) (R.shown reach.new)) }
 {
     let (_, held) = open_session(alloc, reach, *at, slot, Listed::nothing())?;
     match held.admits(name, token) {
@@ -187,7 +189,7 @@ fn pin_and_add<R: Reach>(
     requires admitted { SessionIs held (λ s. refusal_of s name token.0 ≡ None) }
     ensures goes { IfOk result (λ p. Goes (preserve_deeds slot name token file p) at.old at.new (without (session_no slot.0) (R.shown reach.old)) (R.shown reach.new)) }
     ensures told { IfOk result IsPreserved }
-    ensures sticks { IfErr result (λ stuck. SticksAfter stuck at.old at.new (without (session_no slot.0) (R.shown reach.old)) (R.shown reach.new)) }
+    ensures sticks { IfErr result (λ stuck. SticksAfter (AreRest (preserve_acts name token file) (slot_found name slot)) stuck at.old at.new (without (session_no slot.0) (R.shown reach.old)) (R.shown reach.new)) }
 {
     let (order, reply) = match pin(alloc, reach, at, file) {
         Ok(pinned) => pinned,
@@ -232,7 +234,7 @@ fn mark_and_add<R: Reach>(
     requires single { order.0 ≡ 0 }
     requires few { length runs.now < 2 ^ 32 }
     ensures goes { OnOk result (Goes (marked order runs.now ++ added slot name token file Reply.Ok) at.old at.new (without (session_no slot.0) (R.shown reach.old)) (R.shown reach.new)) }
-    ensures sticks { IfErr result (λ stuck. SticksAfter stuck at.old at.new (without (session_no slot.0) (R.shown reach.old)) (R.shown reach.new)) }
+    ensures sticks { IfErr result (λ stuck. SticksAfter (λ ds. ds ≡ marked order runs.now ++ added slot name token file Reply.Ok) stuck at.old at.new (without (session_no slot.0) (R.shown reach.old)) (R.shown reach.new)) }
 {
     if let Err(stuck) = mark_any(alloc, reach, at, order, runs.as_slice()) {
         let number = ObjectNo::of_session(slot);
@@ -255,7 +257,7 @@ fn mark_any<R: Reach>(
     requires single { order.0 ≡ 0 }
     requires few { length runs.now < 2 ^ 32 }
     ensures goes { OnOk result (Goes (marked order runs.now) at.old at.new (R.shown reach.old) (R.shown reach.new)) }
-    ensures sticks { IfErr result (λ stuck. Sticks at.old stuck (R.shown reach.old) (R.shown reach.new)) }
+    ensures sticks { IfErr result (λ stuck. Sticks at.old (turn_of (marked order runs.now)) stuck (R.shown reach.old) (R.shown reach.new)) }
     ensures same_at { OnErr result (at.new ≡ at.old) }
 {
     match runs {

@@ -1,10 +1,11 @@
 //! The command `read`.
 
 ghost use Rattle.std.specs.Prelude.{◌≡◌, IfOk, IfErr};
+ghost use Rattle.ho_world.specs.Sequences.{command_acts};
 ghost use Rattle.machine_core.specs.Agents.{Agent, no_hands};
 ghost use Rattle.machine_core.specs.Commands.{Comes, Halts};
 ghost use Rattle.machine_core.specs.Turns.{IsReady};
-ghost use Rattle.luo_calls.specs.Doing.{SticksAfter};
+ghost use Rattle.luo_calls.specs.Doing.{AreWhole, SticksAfter};
 
 use crate::stuck::{Stuck, release};
 use crate::turns::done::end_command;
@@ -30,7 +31,7 @@ pub fn read<R: Reach>(
     requires ready { IsReady at.old (R.shown reach.old) }
     requires free { (R.shown reach.old).hands ≡ no_hands }
     ensures comes { IfOk result (λ reply. Comes labels.now.bound labels.now.bound (Command.Read label off len) reply at.old at.new (R.shown reach.old) (R.shown reach.new)) }
-    ensures halts { IfErr result (λ halt. Halts labels.now.bound labels.now.bound halt at.old at.new (R.shown reach.old) (R.shown reach.new)) }
+    ensures halts { IfErr result (λ halt. Halts labels.now.bound labels.now.bound (Command.Read label off len) halt at.old at.new (R.shown reach.old) (R.shown reach.new)) }
 {
     match read_turns(alloc, reach, labels, at, label, off, len) {
         Ok(reply) => Ok(reply),
@@ -51,7 +52,7 @@ fn read_turns<R: Reach>(
     requires ready { IsReady at.old (R.shown reach.old) }
     requires free { (R.shown reach.old).hands ≡ no_hands }
     ensures comes { IfOk result (λ reply. Comes labels.now.bound labels.now.bound (Command.Read label off len) reply at.old at.new (R.shown reach.old) (R.shown reach.new)) }
-    ensures sticks { IfErr result (λ stuck. SticksAfter stuck at.old at.new (R.shown reach.old) (R.shown reach.new)) }
+    ensures sticks { IfErr result (λ stuck. SticksAfter (AreWhole (command_acts labels.now.bound (Command.Read label off len))) stuck at.old at.new (R.shown reach.old) (R.shown reach.new)) }
 {
     let Some(file) = labels.file(label) else {
         end_command(reach, at, Reply::BadFd)?;

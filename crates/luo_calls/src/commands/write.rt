@@ -2,11 +2,12 @@
 
 ghost use Rattle.std.specs.Prelude.{◌≡◌, ◌+◌, ◌<◌, ◌≤◌, IfOk, IfErr, length};
 ghost use Rattle.ho_base.specs.declared.limits.TheConstants.{PAGE_BYTES};
+ghost use Rattle.ho_world.specs.Sequences.{command_acts};
 ghost use Rattle.phys_frames.specs.Memory.{AreOf};
 ghost use Rattle.machine_core.specs.Agents.{Agent, no_hands};
 ghost use Rattle.machine_core.specs.Commands.{Comes, Halts};
 ghost use Rattle.machine_core.specs.Turns.{IsReady};
-ghost use Rattle.luo_calls.specs.Doing.{SticksAfter};
+ghost use Rattle.luo_calls.specs.Doing.{AreWhole, SticksAfter};
 ghost use Rattle.luo_calls.specs.Wrote.{answer_of};
 
 use crate::stuck::{Stopped, empty_handed, release};
@@ -55,7 +56,7 @@ pub fn write<R: Reach>(
     requires some { 0 < length bytes.now }
     requires within { off + length bytes.now ≤ PAGE_BYTES }
     ensures comes { IfOk result (λ reply. Comes labels.now.bound labels.now.bound (Command.Write label off bytes.now) reply at.old at.new (R.shown reach.old) (R.shown reach.new)) }
-    ensures halts { IfErr result (λ h. Halts labels.now.bound labels.now.bound h.1 at.old at.new (R.shown reach.old) (R.shown reach.new)) }
+    ensures halts { IfErr result (λ h. Halts labels.now.bound labels.now.bound (Command.Write label off bytes.now) h.1 at.old at.new (R.shown reach.old) (R.shown reach.new)) }
     ensures given_up { IfErr result (λ h. AreOf (R.shown reach.old).anchor.home h.0.items) }
 {
     match write_turns(alloc, reach, labels, at, label, off, bytes) {
@@ -79,7 +80,7 @@ fn write_turns<R: Reach>(
     requires some { 0 < length bytes.now }
     requires within { off + length bytes.now ≤ PAGE_BYTES }
     ensures comes { IfOk result (λ reply. Comes labels.now.bound labels.now.bound (Command.Write label off bytes.now) reply at.old at.new (R.shown reach.old) (R.shown reach.new)) }
-    ensures stopped { IfErr result (λ s. SticksAfter s.stuck at.old at.new (R.shown reach.old) (R.shown reach.new)) }
+    ensures stopped { IfErr result (λ s. SticksAfter (AreWhole (command_acts labels.now.bound (Command.Write label off bytes.now))) s.stuck at.old at.new (R.shown reach.old) (R.shown reach.new)) }
     ensures given_up { IfErr result (λ s. AreOf (R.shown reach.old).anchor.home s.folios.items) }
 {
     let Some(file) = labels.file(label) else {

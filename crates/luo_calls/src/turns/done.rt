@@ -1,6 +1,6 @@
 //! The end of a command, in the agent's own log.
 
-ghost use Rattle.std.specs.Prelude.{◌≡◌, ◌∷◌, [], OnOk, OnErr, IfErr};
+ghost use Rattle.std.specs.Prelude.{◌≡◌, ◌∷◌, [], OnOk, OnErr, IfErr, None};
 ghost use Rattle.ho_world.specs.Logs.{end_with};
 ghost use Rattle.machine_core.specs.Agents.{Agent};
 ghost use Rattle.machine_core.specs.Turns.{IsReady, Goes};
@@ -18,7 +18,7 @@ use machine_core::{Halt, LATE, Reach};
 pub fn end_command<R: Reach>(reach: &mut R, at: &mut At, reply: Reply) -> Result<(), Stuck>
     requires ready { IsReady at.old (R.shown reach.old) }
     ensures goes { OnOk result (Goes (end_with reply ∷ []) at.old at.new (R.shown reach.old) (R.shown reach.new)) }
-    ensures sticks { IfErr result (λ stuck. Sticks at.old stuck (R.shown reach.old) (R.shown reach.new)) }
+    ensures sticks { IfErr result (λ stuck. Sticks at.old None stuck (R.shown reach.old) (R.shown reach.new)) }
     ensures same_at { OnErr result (at.new ≡ at.old) }
 {
     if at.last >= LATE {

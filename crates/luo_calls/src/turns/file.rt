@@ -11,7 +11,7 @@ ghost use Rattle.machine_core.specs.Turns.{IsReady, Goes};
 ghost use Rattle.luo_calls.specs.ClosingFds.{read_of};
 ghost use Rattle.luo_calls.specs.Memfds.{IsMemfd, IsOtherFile};
 ghost use Rattle.luo_calls.specs.Replies.{IsPinReply, IsUnpinReply, IsCloseFdReply, IsGivenUp};
-ghost use Rattle.luo_calls.specs.Stuck.{Sticks};
+ghost use Rattle.luo_calls.specs.Stuck.{Sticks, turn};
 
 use crate::stuck::Stuck;
 use crate::turns::open::open_file;
@@ -49,7 +49,7 @@ pub fn init<R: Reach>(
     requires single { order.0 ≡ 0 }
     requires free { (R.shown reach.old).hands (file_no file.0) ≡ None }
     ensures goes { OnOk result (Goes (deed_at (file_no file.0) [] (Event.FileInit Memfd order 0 []) Reply.Ok ∷ []) at.old at.new (R.shown reach.old) (R.shown reach.new)) }
-    ensures sticks { IfErr result (λ stuck. Sticks at.old stuck (R.shown reach.old) (R.shown reach.new)) }
+    ensures sticks { IfErr result (λ stuck. Sticks at.old (turn (file_no file.0) (Event.FileInit Memfd order 0 [])) stuck (R.shown reach.old) (R.shown reach.new)) }
     ensures same_at { OnErr result (at.new ≡ at.old) }
 {
     let (slip, mut object) = open_file(alloc, reach, *at, file, Listed::nothing())?;
@@ -91,7 +91,7 @@ pub fn pin<R: Reach>(
     ensures few { IfOk result (λ r. length (reply_runs r.1) ≤ 1) }
     ensures single { IfOk result (λ r. r.0.0 ≡ 0) }
     ensures goes { IfOk result (λ r. Goes (deed_at (file_no file.0) (IsFile file Memfd r.0 ∷ []) (Event.FilePin []) r.1 ∷ []) at.old at.new (R.shown reach.old) (R.shown reach.new)) }
-    ensures sticks { IfErr result (λ stuck. Sticks at.old stuck (R.shown reach.old) (R.shown reach.new)) }
+    ensures sticks { IfErr result (λ stuck. Sticks at.old (turn (file_no file.0) (Event.FilePin [])) stuck (R.shown reach.old) (R.shown reach.new)) }
     ensures same_at { OnErr result (at.new ≡ at.old) }
 {
     let (slip, mut object) = open_file(alloc, reach, *at, file, Listed::in_reply(1, 0))?;
@@ -130,7 +130,7 @@ pub fn unpin<R: Reach>(
     ensures single { IfOk result (λ r. r.0.0 ≡ 0) }
     ensures given { IfOk result (λ r. IsGivenUp (R.shown reach.old).anchor.home r.1 given.new.items) }
     ensures goes { IfOk result (λ r. Goes (deed_at (file_no file.0) (IsFile file Memfd r.0 ∷ []) Event.FileUnpin r.1 ∷ []) at.old at.new (R.shown reach.old) (R.shown reach.new)) }
-    ensures sticks { IfErr result (λ stuck. Sticks at.old stuck (R.shown reach.old) (R.shown reach.new)) }
+    ensures sticks { IfErr result (λ stuck. Sticks at.old (turn (file_no file.0) Event.FileUnpin) stuck (R.shown reach.old) (R.shown reach.new)) }
     ensures same_at { OnErr result (at.new ≡ at.old) }
     ensures err_given { OnErr result (given.new.items ≡ []) }
 {

@@ -31,7 +31,7 @@ pub fn open_turn<R: Reach>(
     ensures opens { IfOk result (λ t. Opens at object.0 (R.shown reach.old) (R.shown reach.new) t.1) }
     ensures at { IfOk result (λ t. t.0.at ≡ at) }
     ensures listed { IfOk result (λ t. t.0.room ≡ listed) }
-    ensures sticks { IfErr result (λ stuck. Sticks at stuck (R.shown reach.old) (R.shown reach.new)) }
+    ensures sticks { IfErr result (λ stuck. Sticks at None stuck (R.shown reach.old) (R.shown reach.new)) }
 {
     if at.last >= LATE {
         return Err(Stuck {
@@ -82,7 +82,7 @@ pub fn open_registry<R: Reach>(
     ensures opens { IfOk result (λ t. Opens at registry_no (R.shown reach.old) (R.shown reach.new) (Object.Registry t.1)) }
     ensures at { IfOk result (λ t. t.0.at ≡ at) }
     ensures listed { IfOk result (λ t. t.0.room ≡ listed) }
-    ensures sticks { IfErr result (λ stuck. Sticks at stuck (R.shown reach.old) (R.shown reach.new)) }
+    ensures sticks { IfErr result (λ stuck. Sticks at None stuck (R.shown reach.old) (R.shown reach.new)) }
 {
     match open_turn(alloc, reach, at, ObjectNo::REGISTRY, listed)? {
         (slip, Object::Registry(registry)) => Ok((slip, registry)),
@@ -101,7 +101,7 @@ pub fn open_pool<R: Reach>(
     ensures opens { IfOk result (λ t. Opens at pool_no (R.shown reach.old) (R.shown reach.new) (Object.Pool t.1)) }
     ensures at { IfOk result (λ t. t.0.at ≡ at) }
     ensures listed { IfOk result (λ t. t.0.room ≡ listed) }
-    ensures sticks { IfErr result (λ stuck. Sticks at stuck (R.shown reach.old) (R.shown reach.new)) }
+    ensures sticks { IfErr result (λ stuck. Sticks at None stuck (R.shown reach.old) (R.shown reach.new)) }
 {
     match open_turn(alloc, reach, at, ObjectNo::POOL, listed)? {
         (slip, Object::Pool(pool)) => Ok((slip, pool)),
@@ -123,7 +123,7 @@ pub fn open_session<R: Reach>(
     ensures opens { IfOk result (λ t. Opens at (session_no slot.0) (R.shown reach.old) (R.shown reach.new) (Object.Session t.1)) }
     ensures at { IfOk result (λ t. t.0.at ≡ at) }
     ensures listed { IfOk result (λ t. t.0.room ≡ listed) }
-    ensures sticks { IfErr result (λ stuck. Sticks at stuck (R.shown reach.old) (R.shown reach.new)) }
+    ensures sticks { IfErr result (λ stuck. Sticks at None stuck (R.shown reach.old) (R.shown reach.new)) }
 {
     match open_turn(alloc, reach, at, ObjectNo::of_session(slot), listed)? {
         (slip, Object::Session(session)) => Ok((slip, session)),
@@ -145,7 +145,7 @@ pub fn open_file<R: Reach>(
     ensures opens { IfOk result (λ t. Opens at (file_no file.0) (R.shown reach.old) (R.shown reach.new) (Object.File t.1)) }
     ensures at { IfOk result (λ t. t.0.at ≡ at) }
     ensures listed { IfOk result (λ t. t.0.room ≡ listed) }
-    ensures sticks { IfErr result (λ stuck. Sticks at stuck (R.shown reach.old) (R.shown reach.new)) }
+    ensures sticks { IfErr result (λ stuck. Sticks at None stuck (R.shown reach.old) (R.shown reach.new)) }
 {
     match open_turn(alloc, reach, at, ObjectNo::of_file(file), listed)? {
         (slip, Object::File(file)) => Ok((slip, file)),

@@ -6,7 +6,7 @@ ghost use Rattle.ho_world.specs.Logs.{deed_at};
 ghost use Rattle.phys_frames.specs.Memory.{AreOf, first_frames, zeroed};
 ghost use Rattle.machine_core.specs.Agents.{Agent};
 ghost use Rattle.machine_core.specs.Turns.{IsReady, Goes};
-ghost use Rattle.luo_calls.specs.Stuck.{Sticks};
+ghost use Rattle.luo_calls.specs.Stuck.{Sticks, turn};
 ghost use Rattle.luo_calls.specs.Takes.{TookRuns};
 
 use crate::stuck::Stuck;
@@ -52,7 +52,7 @@ pub fn take_runs<R: Reach>(
     ensures got { IfOk result (λ got. TookRuns order count at.old at.new (R.shown reach.old) (R.shown reach.new) got) }
     ensures out { IfOk result (λ got. MatchOption got (out.new.items ≡ []) (λ runs. out.new.items ≡ map (zeroed (R.shown reach.old).anchor.home) runs.value)) }
     ensures count { IfOk result (λ got. MatchOption got (vec_len out.new ≡ 0) (λ runs. length runs.value ≡ count)) }
-    ensures sticks { IfErr result (λ stuck. Sticks at.old stuck (R.shown reach.old) (R.shown reach.new)) }
+    ensures sticks { IfErr result (λ stuck. Sticks at.old (turn pool_no (Event.PoolTake order count)) stuck (R.shown reach.old) (R.shown reach.new)) }
     ensures same_at { OnErr result (at.new ≡ at.old) }
     ensures err_out { OnErr result (out.new.items ≡ []) }
 {
@@ -81,7 +81,7 @@ pub fn mark<R: Reach>(
     requires single { order.0 ≡ 0 }
     requires few { length runs.now < 2 ^ 32 }
     ensures goes { OnOk result (Goes (deed_at pool_no [] (Event.PoolMark order runs.now) Reply.Ok ∷ []) at.old at.new (R.shown reach.old) (R.shown reach.new)) }
-    ensures sticks { IfErr result (λ stuck. Sticks at.old stuck (R.shown reach.old) (R.shown reach.new)) }
+    ensures sticks { IfErr result (λ stuck. Sticks at.old (turn pool_no (Event.PoolMark order runs.now)) stuck (R.shown reach.old) (R.shown reach.new)) }
     ensures same_at { OnErr result (at.new ≡ at.old) }
 {
     let listed = Listed::in_event(runs.len() as u32, 0);
@@ -108,7 +108,7 @@ pub fn unmark<R: Reach>(
     requires single { order.0 ≡ 0 }
     requires few { length runs.now < 2 ^ 32 }
     ensures goes { OnOk result (Goes (deed_at pool_no [] (Event.PoolUnmark order runs.now) Reply.Ok ∷ []) at.old at.new (R.shown reach.old) (R.shown reach.new)) }
-    ensures sticks { IfErr result (λ stuck. Sticks at.old stuck (R.shown reach.old) (R.shown reach.new)) }
+    ensures sticks { IfErr result (λ stuck. Sticks at.old (turn pool_no (Event.PoolUnmark order runs.now)) stuck (R.shown reach.old) (R.shown reach.new)) }
     ensures same_at { OnErr result (at.new ≡ at.old) }
 {
     let listed = Listed::in_event(runs.len() as u32, 0);
@@ -137,7 +137,7 @@ pub fn give<R: Reach>(
     requires of_home { AreOf (R.shown reach.old).anchor.home folios.old.items }
     ensures goes { OnOk result (Goes (deed_at pool_no [] (Event.PoolGive order (first_frames folios.old.items)) Reply.Ok ∷ []) at.old at.new (R.shown reach.old) (R.shown reach.new)) }
     ensures given { OnOk result (folios.new.items ≡ []) }
-    ensures sticks { IfErr result (λ stuck. Sticks at.old stuck (R.shown reach.old) (R.shown reach.new)) }
+    ensures sticks { IfErr result (λ stuck. Sticks at.old (turn pool_no (Event.PoolGive order (first_frames folios.old.items))) stuck (R.shown reach.old) (R.shown reach.new)) }
     ensures same_at { OnErr result (at.new ≡ at.old) }
     ensures kept { OnErr result (folios.new.items ≡ folios.old.items) }
 {

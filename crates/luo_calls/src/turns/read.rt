@@ -6,7 +6,7 @@ ghost use Rattle.ho_events.specs.Slips.{reply_runs, reply_bytes};
 ghost use Rattle.ho_world.specs.Logs.{deed_at};
 ghost use Rattle.machine_core.specs.Agents.{Agent};
 ghost use Rattle.machine_core.specs.Turns.{IsReady, Goes};
-ghost use Rattle.luo_calls.specs.Stuck.{Sticks};
+ghost use Rattle.luo_calls.specs.Stuck.{Sticks, turn};
 
 use crate::stuck::Stuck;
 use crate::turns::file::broken_file;
@@ -35,7 +35,7 @@ pub fn read_file<R: Reach>(
     ensures runs { IfOk result (λ reply. reply_runs reply ≡ []) }
     ensures bytes { IfOk result (λ reply. length (reply_bytes reply) ≤ len) }
     ensures goes { IfOk result (λ reply. Goes (deed_at (file_no file.0) [] (Event.FileRead off len) reply ∷ []) at.old at.new (R.shown reach.old) (R.shown reach.new)) }
-    ensures sticks { IfErr result (λ stuck. Sticks at.old stuck (R.shown reach.old) (R.shown reach.new)) }
+    ensures sticks { IfErr result (λ stuck. Sticks at.old (turn (file_no file.0) (Event.FileRead off len)) stuck (R.shown reach.old) (R.shown reach.new)) }
     ensures same_at { OnErr result (at.new ≡ at.old) }
 {
     let (slip, mut object) = open_file(alloc, reach, *at, file, Listed::in_reply(0, len))?;

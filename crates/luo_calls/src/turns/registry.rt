@@ -6,7 +6,7 @@ ghost use Rattle.ho_world.specs.Logs.{deed_at};
 ghost use Rattle.machine_core.specs.Agents.{Agent};
 ghost use Rattle.machine_core.specs.Turns.{IsReady, Goes};
 ghost use Rattle.luo_calls.specs.Replies.{IsFileReply, IsCreateReply, IsFindReply};
-ghost use Rattle.luo_calls.specs.Stuck.{Sticks};
+ghost use Rattle.luo_calls.specs.Stuck.{Sticks, turn};
 
 use crate::stuck::Stuck;
 use crate::turns::open::open_registry;
@@ -38,7 +38,7 @@ pub fn new_file<R: Reach>(alloc: Global, reach: &mut R, at: &mut At) -> Result<R
     requires free { (R.shown reach.old).hands registry_no ≡ None }
     ensures reply { IfOk result IsFileReply }
     ensures goes { IfOk result (λ reply. Goes (deed_at registry_no [] Event.RegNewFile reply ∷ []) at.old at.new (R.shown reach.old) (R.shown reach.new)) }
-    ensures sticks { IfErr result (λ stuck. Sticks at.old stuck (R.shown reach.old) (R.shown reach.new)) }
+    ensures sticks { IfErr result (λ stuck. Sticks at.old (turn registry_no Event.RegNewFile) stuck (R.shown reach.old) (R.shown reach.new)) }
     ensures same_at { OnErr result (at.new ≡ at.old) }
 {
     let (slip, mut registry) = open_registry(alloc, reach, *at, Listed::nothing())?;
@@ -60,7 +60,7 @@ pub fn create_name<R: Reach>(
     requires free { (R.shown reach.old).hands registry_no ≡ None }
     ensures reply { IfOk result IsCreateReply }
     ensures goes { IfOk result (λ reply. Goes (deed_at registry_no [] (Event.RegCreate name) reply ∷ []) at.old at.new (R.shown reach.old) (R.shown reach.new)) }
-    ensures sticks { IfErr result (λ stuck. Sticks at.old stuck (R.shown reach.old) (R.shown reach.new)) }
+    ensures sticks { IfErr result (λ stuck. Sticks at.old (turn registry_no (Event.RegCreate name)) stuck (R.shown reach.old) (R.shown reach.new)) }
     ensures same_at { OnErr result (at.new ≡ at.old) }
 {
     let (slip, mut registry) = open_registry(alloc, reach, *at, Listed::nothing())?;
@@ -82,7 +82,7 @@ pub fn find_out<R: Reach>(
     requires free { (R.shown reach.old).hands registry_no ≡ None }
     ensures reply { IfOk result IsFindReply }
     ensures goes { IfOk result (λ reply. Goes (deed_at registry_no [] (Event.RegFindOut name) reply ∷ []) at.old at.new (R.shown reach.old) (R.shown reach.new)) }
-    ensures sticks { IfErr result (λ stuck. Sticks at.old stuck (R.shown reach.old) (R.shown reach.new)) }
+    ensures sticks { IfErr result (λ stuck. Sticks at.old (turn registry_no (Event.RegFindOut name)) stuck (R.shown reach.old) (R.shown reach.new)) }
     ensures same_at { OnErr result (at.new ≡ at.old) }
 {
     let (slip, mut registry) = open_registry(alloc, reach, *at, Listed::nothing())?;
@@ -103,7 +103,7 @@ pub fn free_file<R: Reach>(
     requires file { file.0 < FILES }
     requires free { (R.shown reach.old).hands registry_no ≡ None }
     ensures goes { OnOk result (Goes (deed_at registry_no [] (Event.RegFreeFile file) Reply.Ok ∷ []) at.old at.new (R.shown reach.old) (R.shown reach.new)) }
-    ensures sticks { IfErr result (λ stuck. Sticks at.old stuck (R.shown reach.old) (R.shown reach.new)) }
+    ensures sticks { IfErr result (λ stuck. Sticks at.old (turn registry_no (Event.RegFreeFile file)) stuck (R.shown reach.old) (R.shown reach.new)) }
     ensures same_at { OnErr result (at.new ≡ at.old) }
 {
     let (slip, mut registry) = open_registry(alloc, reach, *at, Listed::nothing())?;
@@ -126,7 +126,7 @@ pub fn drop_name<R: Reach>(
     requires ready { IsReady at.old (R.shown reach.old) }
     requires free { (R.shown reach.old).hands registry_no ≡ None }
     ensures goes { OnOk result (Goes (deed_at registry_no [] (Event.RegDropName name) Reply.Ok ∷ []) at.old at.new (R.shown reach.old) (R.shown reach.new)) }
-    ensures sticks { IfErr result (λ stuck. Sticks at.old stuck (R.shown reach.old) (R.shown reach.new)) }
+    ensures sticks { IfErr result (λ stuck. Sticks at.old (turn registry_no (Event.RegDropName name)) stuck (R.shown reach.old) (R.shown reach.new)) }
     ensures same_at { OnErr result (at.new ≡ at.old) }
 {
     let (slip, mut registry) = open_registry(alloc, reach, *at, Listed::nothing())?;

@@ -17,7 +17,7 @@ pub fn resume<R: Reach>(alloc: Global, reach: &mut R, at: At, listed: Listed) ->
     ensures early { OnOk result (at.last < 2 ^ 63) }
     ensures room { OnOk result (1 ≤ (R.shown reach.new).room) }
     ensures kept { R.shown reach.new ≡ record (R.shown reach.old) { room = (R.shown reach.new).room } }
-    ensures sticks { IfErr result (λ stuck. Sticks at stuck (R.shown reach.old) (R.shown reach.new)) }
+    ensures sticks { IfErr result (λ stuck. Sticks at None stuck (R.shown reach.old) (R.shown reach.new)) }
 {
     if at.last >= LATE {
         return Err(Stuck {

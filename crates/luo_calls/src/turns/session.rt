@@ -10,7 +10,7 @@ ghost use Rattle.session_core.specs.SessionValues.{SessionIs};
 ghost use Rattle.machine_core.specs.Agents.{Agent, begun};
 ghost use Rattle.machine_core.specs.Turns.{IsReady, Goes};
 ghost use Rattle.luo_calls.specs.Opened.{Holds, without};
-ghost use Rattle.luo_calls.specs.Stuck.{Sticks};
+ghost use Rattle.luo_calls.specs.Stuck.{Sticks, turn};
 
 use crate::stuck::Stuck;
 use crate::turns::open::open_session;
@@ -37,7 +37,7 @@ pub fn begin_out<R: Reach>(
     requires slot { slot.0 < OUT_SLOTS }
     requires free { (R.shown reach.old).hands (session_no slot.0) ≡ None }
     ensures goes { OnOk result (Goes (deed_at (session_no slot.0) [] (Event.SessionBegin name) Reply.Ok ∷ []) at.old at.new (R.shown reach.old) (R.shown reach.new)) }
-    ensures sticks { IfErr result (λ stuck. Sticks at.old stuck (R.shown reach.old) (R.shown reach.new)) }
+    ensures sticks { IfErr result (λ stuck. Sticks at.old (turn (session_no slot.0) (Event.SessionBegin name)) stuck (R.shown reach.old) (R.shown reach.new)) }
     ensures same_at { OnErr result (at.new ≡ at.old) }
 {
     let (slip, mut session) = open_session(alloc, reach, *at, slot, Listed::nothing())?;
@@ -73,7 +73,7 @@ pub fn add<R: Reach>(
     requires lost { IfSome lost (λ reply. IsTrue (is_loss reply)) }
     ensures answer { IfOk result (λ reply. SessionIs held (λ s. reply ≡ add_answer (refusal_of s name token.0) lost)) }
     ensures goes { IfOk result (λ reply. Goes (deed_at (session_no slot.0) [] (Event.SessionAdd name token file 0) reply ∷ []) at.old at.new (without (session_no slot.0) (R.shown reach.old)) (R.shown reach.new)) }
-    ensures sticks { IfErr result (λ stuck. Sticks at.old stuck (without (session_no slot.0) (R.shown reach.old)) (R.shown reach.new)) }
+    ensures sticks { IfErr result (λ stuck. Sticks at.old (turn (session_no slot.0) (Event.SessionAdd name token file 0)) stuck (without (session_no slot.0) (R.shown reach.old)) (R.shown reach.new)) }
     ensures same_at { OnErr result (at.new ≡ at.old) }
 {
     let number = ObjectNo::of_session(slot);
@@ -108,7 +108,7 @@ pub fn end_session<R: Reach>(
     requires holds { Holds (session_no slot.0) (R.shown reach.old) (Object.Session held) }
     ensures answer { IfOk result (λ reply. SessionIs held (λ s. reply ≡ close_answer (is_out s name))) }
     ensures goes { IfOk result (λ reply. (claims : List Claim) → AreClaimed (begun (R.shown reach.old)) (R.shown reach.old).hands claims → Goes (deed_at (session_no slot.0) claims (Event.SessionClose name) reply ∷ []) at.old at.new (without (session_no slot.0) (R.shown reach.old)) (R.shown reach.new)) }
-    ensures sticks { IfErr result (λ stuck. Sticks at.old stuck (without (session_no slot.0) (R.shown reach.old)) (R.shown reach.new)) }
+    ensures sticks { IfErr result (λ stuck. Sticks at.old (turn (session_no slot.0) (Event.SessionClose name)) stuck (without (session_no slot.0) (R.shown reach.old)) (R.shown reach.new)) }
     ensures same_at { OnErr result (at.new ≡ at.old) }
 {
     let number = ObjectNo::of_session(slot);

@@ -1,7 +1,7 @@
 //! The turns of the command `write`: the take of runs for the holes, and the write of the file, which is in hand
 //! meanwhile.
 
-ghost use Rattle.std.specs.Prelude.{◌≡◌, ◌≢◌, ◌+◌, ◌<◌, ◌≤◌, ◌^◌, ◌∷◌, [], ◌||◌, ◌==◌, IfOk, IfErr, OnOk, OnErr, IsTrue, None, List, length, map, option_map};
+ghost use Rattle.std.specs.Prelude.{◌≡◌, ◌≢◌, ℕ, ◌+◌, ◌<◌, ◌≤◌, ◌^◌, ◌∷◌, [], ◌||◌, ◌==◌, IfOk, IfErr, OnOk, OnErr, IsTrue, None, List, length, map, option_map};
 ghost use Rattle.std.specs.Vec.{vec_len};
 ghost use Rattle.ho_base.specs.Objects.{pool_no, file_no};
 ghost use Rattle.ho_base.specs.declared.limits.TheConstants.{PAGE_BYTES};
@@ -9,6 +9,7 @@ ghost use Rattle.ho_events.specs.File.{grows_frozen, touched_holes};
 ghost use Rattle.ho_base.specs.declared.numbers.Kind.TheVariants.{Memfd};
 ghost use Rattle.ho_world.specs.Acts.{Claim, IsFile};
 ghost use Rattle.ho_world.specs.Logs.{deed_at, AreClaimed};
+ghost use Rattle.ho_world.specs.Sequences.Files.{write_acts};
 ghost use Rattle.phys_frames.specs.Memory.{AreFills, AreOf, first_frames, zeroed};
 ghost use Rattle.memfd_file.specs.FileValues.{FileIs};
 ghost use Rattle.memfd_file.specs.Files.{FileHas, facts_of, fills_left, fills_used, write_answer};
@@ -16,8 +17,8 @@ ghost use Rattle.machine_core.specs.Agents.{Agent, begun, no_hands};
 ghost use Rattle.machine_core.specs.Turns.{IsReady, Goes};
 ghost use Rattle.luo_calls.specs.Memfds.{is_frozen_by, IsMemfd, IsPlainReply, TouchesHoles};
 ghost use Rattle.luo_calls.specs.Opened.{Holds, Opens, without};
-ghost use Rattle.luo_calls.specs.Doing.{SticksAfter};
-ghost use Rattle.luo_calls.specs.Stuck.{Sticks};
+ghost use Rattle.luo_calls.specs.Doing.{AreWhole, SticksAfter};
+ghost use Rattle.luo_calls.specs.Stuck.{Sticks, turn};
 ghost use Rattle.luo_calls.specs.Wrote.{IsTaking, IsWrote, write_deeds};
 
 use crate::stuck::{Stopped, Stuck};
@@ -48,7 +49,7 @@ pub fn open_write<R: Reach>(
     requires free { (R.shown reach.old).hands (file_no file.0) ≡ None }
     ensures opens { IfOk result (λ t. Opens at (file_no file.0) (R.shown reach.old) (R.shown reach.new) (Object.File t.0)) }
     ensures memfd { IfOk result (λ t. FileIs t.0 (λ s. IsMemfd (option_map facts_of s) t.1)) }
-    ensures sticks { IfErr result (λ stuck. Sticks at stuck (R.shown reach.old) (R.shown reach.new)) }
+    ensures sticks { IfErr result (λ stuck. (off : ℕ) (bytes : List ℕ) → Sticks at (turn (file_no file.0) (Event.FileWrite off bytes [])) stuck (R.shown reach.old) (R.shown reach.new)) }
 {
     let (_, object) = open_file(alloc, reach, at, file, Listed::nothing())?;
     let number = ObjectNo::of_file(file);
@@ -145,7 +146,7 @@ fn write_plain<R: Reach>(
     requires plain { FileHas object (λ f. IsTrue (grows_frozen f (off + length bytes.now) || length (touched_holes f off (length bytes.now)) == 0)) }
     ensures reply { IfOk result IsPlainReply }
     ensures goes { IfOk result (λ reply. Goes (deed_at (file_no file.0) [] (Event.FileWrite off bytes.now []) reply ∷ []) at.old at.new (without (file_no file.0) (R.shown reach.old)) (R.shown reach.new)) }
-    ensures sticks { IfErr result (λ stuck. Sticks at.old stuck (without (file_no file.0) (R.shown reach.old)) (R.shown reach.new)) }
+    ensures sticks { IfErr result (λ stuck. Sticks at.old (turn (file_no file.0) (Event.FileWrite off bytes.now [])) stuck (without (file_no file.0) (R.shown reach.old)) (R.shown reach.new)) }
     ensures same_at { OnErr result (at.new ≡ at.old) }
 {
     let slip = match resume(alloc, reach, *at, Listed::in_event(0, bytes.len() as u32)) {
@@ -182,7 +183,7 @@ fn write_starved<R: Reach>(
     requires within { off + length bytes.now ≤ PAGE_BYTES }
     requires touched { FileHas object (λ f. TouchesHoles f off (length bytes.now) holes) }
     ensures goes { OnOk result (Goes (deed_at (file_no file.0) (IsFile file Memfd order ∷ []) (Event.FileWrite off bytes.now []) (Reply.NoFramesOf holes) ∷ []) at.old at.new (without (file_no file.0) (R.shown reach.old)) (R.shown reach.new)) }
-    ensures sticks { IfErr result (λ stuck. Sticks at.old stuck (without (file_no file.0) (R.shown reach.old)) (R.shown reach.new)) }
+    ensures sticks { IfErr result (λ stuck. Sticks at.old (turn (file_no file.0) (Event.FileWrite off bytes.now [])) stuck (without (file_no file.0) (R.shown reach.old)) (R.shown reach.new)) }
     ensures same_at { OnErr result (at.new ≡ at.old) }
 {
     let _order = order;
@@ -225,7 +226,7 @@ fn write_filled<R: Reach>(
     requires few { vec_len fills < 2 ^ 32 }
     ensures goes { OnOk result (Goes (deed_at (file_no file.0) (IsFile file Memfd order ∷ []) (Event.FileWrite off bytes.now runs.value) Reply.Ok ∷ []) at.old at.new (without (file_no file.0) (R.shown reach.old)) (R.shown reach.new)) }
     ensures wrote { IfOk result (λ w. w ≡ Wrote.Filled order runs) }
-    ensures sticks { IfErr result (λ s. Sticks at.old s.stuck (without (file_no file.0) (R.shown reach.old)) (R.shown reach.new)) }
+    ensures sticks { IfErr result (λ s. Sticks at.old (turn (file_no file.0) (Event.FileWrite off bytes.now runs.value)) s.stuck (without (file_no file.0) (R.shown reach.old)) (R.shown reach.new)) }
     ensures same_at { OnErr result (at.new ≡ at.old) }
     ensures given_up { IfErr result (λ s. AreOf (R.shown reach.old).anchor.home s.folios.items) }
 {
@@ -271,7 +272,7 @@ fn write_taking<R: Reach>(
     requires holes { 0 < holes }
     ensures goes { IfOk result (λ w. Goes (write_deeds file off bytes.now w) at.old at.new (without (file_no file.0) (R.shown reach.old)) (R.shown reach.new)) }
     ensures takes { IfOk result (λ w. IsTaking order holes w) }
-    ensures stopped { IfErr result (λ s. SticksAfter s.stuck at.old at.new (without (file_no file.0) (R.shown reach.old)) (R.shown reach.new)) }
+    ensures stopped { IfErr result (λ s. SticksAfter (AreWhole (write_acts file off (length bytes.now) (λ fills. Event.FileWrite off bytes.now fills))) s.stuck at.old at.new (without (file_no file.0) (R.shown reach.old)) (R.shown reach.new)) }
     ensures given_up { IfErr result (λ s. AreOf (R.shown reach.old).anchor.home s.folios.items) }
 {
     let number = ObjectNo::of_file(file);
@@ -328,7 +329,7 @@ pub fn write_file<R: Reach>(
     requires within { off + length bytes.now ≤ PAGE_BYTES }
     ensures goes { IfOk result (λ w. Goes (write_deeds file off bytes.now w) at.old at.new (R.shown reach.old) (R.shown reach.new)) }
     ensures told { IfOk result (IsWrote off (length bytes.now)) }
-    ensures stopped { IfErr result (λ s. SticksAfter s.stuck at.old at.new (R.shown reach.old) (R.shown reach.new)) }
+    ensures stopped { IfErr result (λ s. SticksAfter (AreWhole (write_acts file off (length bytes.now) (λ fills. Event.FileWrite off bytes.now fills))) s.stuck at.old at.new (R.shown reach.old) (R.shown reach.new)) }
     ensures given_up { IfErr result (λ s. AreOf (R.shown reach.old).anchor.home s.folios.items) }
 {
     let (object, order) = match open_write(alloc, reach, *at, file) {

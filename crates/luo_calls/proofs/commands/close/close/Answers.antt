@@ -1,5 +1,10 @@
-use Rattle.luo_calls.proofs.Sticking.{halts_after}
+use Rattle.ho_world.specs.Sequences.Parts.{close_acts}
+use Rattle.ho_world.specs.Sequences.{CloseCame}
+use Rattle.ho_events.specs.declared.command.Command.TheVariants as command
+use Rattle.std.proofs.Common.{refl}
+use Rattle.luo_calls.proofs.Sticking.{halts_by}
 use Rattle.luo_calls.proofs.commands.close.close.Goals as goal
 
 pub returns-in-Err-clause-halts : goal.returns-in-Err-clause-halts
-returns-in-Err-clause-halts g c labels = halts_after labels _ _ _ _ _ _ _ c.in-Err.ensures.stopped c.release.ensures.halt c.release.ensures.released
+returns-in-Err-clause-halts g c labels =
+    halts_by (close_acts c.args.name) CloseCame labels (command.Close c.args.name) (λ x. refl) _ _ _ _ _ _ _ c.in-Err.ensures.stopped c.release.ensures.halt c.release.ensures.released

@@ -1,17 +1,20 @@
+use Rattle.luo_calls.proofs.Closes.{other_deeds, other_whole, answered_as, other_closes, same_reply}
+use Rattle.ho_world.specs.Logs.{Deed, deed_at, end_with}
+use Rattle.ho_events.specs.declared.reply.Reply.TheVariants.{NoSession}
+use Rattle.std.proofs.Common.{[], ◌∷◌, false}
 use Rattle.std.proofs.lemmas.Result.{err_from_is_err_and}
-use Rattle.std.proofs.Common.{[], false}
 use Rattle.ho_base.specs.Objects.{session_no}
 use Rattle.ho_events.specs.declared.event.Event.TheVariants.{SessionClose}
 use Rattle.luo_calls.specs.Opened.{without}
 use Rattle.luo_calls.proofs.Chains.{ready_after}
-use Rattle.luo_calls.proofs.Closes.{answered_as, other_closes, same_reply}
 use Rattle.luo_calls.proofs.Nested.{ready_without, sticks_first, sticks_next}
 use Rattle.luo_calls.proofs.commands.close.close_other.Goals as goal
 
 pub returns-in_err-end_session-clause-sticks : goal.returns-in_err-end_session-clause-sticks
 returns-in_err-end_session-clause-sticks g c =
     let b = without (session_no c.args.slot.0) (g.R.Reach.shown c.args.reach.now) in
-    let p = err_from_is_err_and c.from_residual.result c.from_residual.ensures.1 in rw (p.1, p.2) (sticks_first _ _ _ b _ c.in_err-end_session.ensures.same_at c.in_err-end_session.ensures.sticks)
+    let p = err_from_is_err_and c.from_residual.result c.from_residual.ensures.1 in rw (p.1, p.2)
+    (sticks_first (other_deeds c.args.name c.args.slot) (other_whole c.args.name c.args.slot) _ _ _ b _ c.in_err-end_session.ensures.same_at c.in_err-end_session.ensures.sticks)
 
 pub end_command-requires : goal.end_command-requires
 end_command-requires g c =
@@ -22,7 +25,9 @@ pub returns-in_err-end_command-clause-sticks : goal.returns-in_err-end_command-c
 returns-in_err-end_command-clause-sticks g c =
     let b = without (session_no c.args.slot.0) (g.R.Reach.shown c.args.reach.now) in
     let p = err_from_is_err_and c.from_residual-in_err-end_command.result c.from_residual-in_err-end_command.ensures.1 in rw (p.1, p.2)
-    (sticks_next _ _ _ _ _ b _ _ (c.in_ok-end_session.ensures.goes [] tt) c.in_err-end_command.ensures.same_at c.in_err-end_command.ensures.sticks)
+    (sticks_next (deed_at (session_no c.args.slot.0) [] (SessionClose c.args.name) NoSession ∷ []) (end_with NoSession ∷ []) (other_whole c.args.name c.args.slot) _ _ _ _ b _ _
+    (same_reply _ _ (SessionClose c.args.name) _ _ _ _ b _ (answered_as c.args.held c.args.name false _ c.requires.other c.in_ok-end_session.ensures.answer) (c.in_ok-end_session.ensures.goes [] tt))
+    c.in_err-end_command.ensures.same_at c.in_err-end_command.ensures.sticks)
 
 pub returns-clause-closes : goal.returns-clause-closes
 returns-clause-closes g c =

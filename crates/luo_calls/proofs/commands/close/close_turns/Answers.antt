@@ -1,16 +1,19 @@
-use Rattle.std.proofs.Common.{sym, subst}
+use Rattle.luo_calls.proofs.Closes.{no_slot, no_name_whole, none_comes, same_reply, slot_comes_if, slot_stops_if}
+use Rattle.std.proofs.Common.{[], ◌∷◌, ◌++◌, sym, subst}
+use Rattle.luo_calls.proofs.Nested.{sticks_next, sticks_first}
+use Rattle.ho_world.specs.Logs.{Deed, deed_at, end_with}
+use Rattle.ho_events.specs.declared.reply.Reply.TheVariants.{NoSession}
+use Rattle.ho_world.specs.Sequences.Parts.{close_acts}
 use Rattle.ho_events.specs.declared.event.Event.TheVariants.{RegFindOut}
 use Rattle.luo_calls.specs.declared.stuck.Stuck.{Stuck}
-use Rattle.luo_calls.specs.Doing.{SticksAfter}
+use Rattle.luo_calls.specs.Doing.{AreWhole, SticksAfter, slot_found}
 use Rattle.luo_calls.proofs.Chains.{ready_after}
-use Rattle.luo_calls.proofs.Closes.{none_comes, same_reply, slot_comes_if, slot_stops_if}
-use Rattle.luo_calls.proofs.Nested.{sticks_first}
 use Rattle.luo_calls.proofs.commands.close.close_turns.Goals as goal
 
 pub returns-in-Err-clause-stopped : goal.returns-in-Err-clause-stopped
 returns-in-Err-clause-stopped g c =
-    subst (λ (s : Stuck). SticksAfter s c.args.at.now c.find_out.new.at (g.R.Reach.shown c.args.reach.now) (g.R.Reach.shown c.find_out.new.reach)) (sym c.empty_handed.ensures.stuck)
-    (sticks_first _ _ _ _ _ c.in-Err.ensures.same_at c.in-Err.ensures.sticks)
+    subst (λ (s : Stuck). SticksAfter (AreWhole (close_acts c.args.name)) s c.args.at.now c.find_out.new.at (g.R.Reach.shown c.args.reach.now) (g.R.Reach.shown c.find_out.new.reach)) (sym c.empty_handed.ensures.stuck)
+    (sticks_first (no_slot c.args.name ++ end_with NoSession ∷ []) (no_name_whole c.args.name) _ _ _ _ _ c.in-Err.ensures.same_at c.in-Err.ensures.sticks)
 
 pub close_slot-requires-clause-ready : goal.close_slot-requires-clause-ready
 close_slot-requires-clause-ready g c = ready_after _ _ _ _ _ c.requires.ready c.in-Ok.ensures.goes
@@ -24,8 +27,16 @@ returns-in-OkSlot-clause-comes g c =
     (same_reply _ _ (RegFindOut c.args.name) _ _ _ _ _ _ c.in-OkSlot.is c.in-Ok.ensures.goes) c.close_slot.ensures.closes
 
 pub returns-in-OkSlot-clause-stopped : goal.returns-in-OkSlot-clause-stopped
-returns-in-OkSlot-clause-stopped g c = slot_stops_if _ _ _ _ _ _ _ c.close_slot.result c.in-Ok.ensures.goes c.close_slot.ensures.stopped
+returns-in-OkSlot-clause-stopped g c =
+    slot_stops_if (slot_found c.args.name c.in-OkSlot.slot) (λ rest h. h) _ _ _ _ _ _ c.close_slot.result
+    (same_reply _ _ (RegFindOut c.args.name) _ _ _ _ _ _ c.in-OkSlot.is c.in-Ok.ensures.goes) c.close_slot.ensures.stopped
 
 pub returns-in-Ok-end_command-clause-comes : goal.returns-in-Ok-end_command-clause-comes
 returns-in-Ok-end_command-clause-comes g c labels =
     none_comes c.args.name _ _ _ _ _ _ labels (same_reply _ _ (RegFindOut c.args.name) _ _ _ _ _ _ c.in-NoSession.is c.in-Ok.ensures.goes) c.in-Ok-end_command.ensures.goes
+
+pub returns-in-Err-end_command-clause-stopped : goal.returns-in-Err-end_command-clause-stopped
+returns-in-Err-end_command-clause-stopped g c =
+    subst (λ (s : Stuck). SticksAfter (AreWhole (close_acts c.args.name)) s c.args.at.now c.end_command.new.at (g.R.Reach.shown c.args.reach.now) (g.R.Reach.shown c.end_command.new.reach)) (sym c.empty_handed-in-Err-end_command.ensures.stuck)
+    (sticks_next (no_slot c.args.name) (end_with NoSession ∷ []) (no_name_whole c.args.name) _ _ _ _ _ _ _
+    (same_reply _ _ (RegFindOut c.args.name) _ _ _ _ _ _ c.in-NoSession.is c.in-Ok.ensures.goes) c.in-Err-end_command.ensures.same_at c.in-Err-end_command.ensures.sticks)

@@ -1,7 +1,10 @@
+use Rattle.luo_calls.specs.Closing.{session_ends}
+use Rattle.ho_world.specs.Logs.{Deed, deed_at, end_with}
+use Rattle.ho_events.specs.declared.reply.Reply.TheVariants.{Ok}
+use Rattle.ho_events.specs.declared.event.Event.TheVariants.{RegDropName, SessionClose}
+use Rattle.std.proofs.Common.{[], ◌∷◌, refl, ap, ◌∙◌, true}
 use Rattle.std.proofs.lemmas.Result.{err_from_is_err_and}
-use Rattle.std.proofs.Common.{[], ap, ◌∙◌, true}
 use Rattle.ho_base.specs.Objects.{registry_no, session_no}
-use Rattle.ho_events.specs.declared.event.Event.TheVariants.{SessionClose}
 use Rattle.luo_calls.specs.Opened.{without}
 use Rattle.luo_calls.proofs.Chains.{ready_after, then_goes}
 use Rattle.luo_calls.proofs.Closes.{answered_as, same_reply, still_free}
@@ -11,7 +14,8 @@ use Rattle.luo_calls.proofs.commands.close.end_out.Goals as goal
 pub returns-in_err-end_session-clause-sticks : goal.returns-in_err-end_session-clause-sticks
 returns-in_err-end_session-clause-sticks g c =
     let b = without (session_no c.args.slot.0) (g.R.Reach.shown c.args.reach.now) in
-    let p = err_from_is_err_and c.from_residual.result c.from_residual.ensures.1 in rw (p.1, p.2) (sticks_first _ _ _ b _ c.in_err-end_session.ensures.same_at c.in_err-end_session.ensures.sticks)
+    let p = err_from_is_err_and c.from_residual.result c.from_residual.ensures.1 in rw (p.1, p.2)
+    (λ claims known. sticks_first (session_ends c.args.slot c.args.name claims) refl _ _ _ b _ c.in_err-end_session.ensures.same_at c.in_err-end_session.ensures.sticks)
 
 pub drop_name-requires-clause-ready : goal.drop_name-requires-clause-ready
 drop_name-requires-clause-ready g c =
@@ -26,7 +30,8 @@ pub returns-in_err-drop_name-clause-sticks : goal.returns-in_err-drop_name-claus
 returns-in_err-drop_name-clause-sticks g c =
     let b = without (session_no c.args.slot.0) (g.R.Reach.shown c.args.reach.now) in
     let p = err_from_is_err_and c.from_residual-in_err-drop_name.result c.from_residual-in_err-drop_name.ensures.1 in rw (p.1, p.2)
-    (sticks_next _ _ _ _ _ b _ _ (c.in_ok-end_session.ensures.goes [] tt) c.in_err-drop_name.ensures.same_at c.in_err-drop_name.ensures.sticks)
+    (λ claims known. sticks_next (deed_at (session_no c.args.slot.0) claims (SessionClose c.args.name) Ok ∷ []) (deed_at registry_no [] (RegDropName c.args.name) Ok ∷ end_with Ok ∷ []) refl _ _ _ _ b _ _
+    (same_reply _ claims (SessionClose c.args.name) _ _ _ _ b _ (answered_as c.args.held c.args.name true _ c.requires.out c.in_ok-end_session.ensures.answer) (c.in_ok-end_session.ensures.goes claims known)) c.in_err-drop_name.ensures.same_at c.in_err-drop_name.ensures.sticks)
 
 pub end_command-requires : goal.end_command-requires
 end_command-requires g c =
@@ -41,7 +46,8 @@ pub returns-in_err-end_command-clause-sticks : goal.returns-in_err-end_command-c
 returns-in_err-end_command-clause-sticks g c =
     let b = without (session_no c.args.slot.0) (g.R.Reach.shown c.args.reach.now) in
     let p = err_from_is_err_and c.from_residual-in_err-end_command.result c.from_residual-in_err-end_command.ensures.1 in rw (p.1, p.2)
-    (sticks_next _ _ _ _ _ b _ _ (then_goes _ _ _ _ _ b _ _ (c.in_ok-end_session.ensures.goes [] tt) c.in_ok-drop_name.ensures.goes) c.in_err-end_command.ensures.same_at c.in_err-end_command.ensures.sticks)
+    (λ claims known. sticks_next (deed_at (session_no c.args.slot.0) claims (SessionClose c.args.name) Ok ∷ deed_at registry_no [] (RegDropName c.args.name) Ok ∷ []) (end_with Ok ∷ []) refl _ _ _ _ b _ _
+    (then_goes _ _ _ _ _ b _ _ (same_reply _ claims (SessionClose c.args.name) _ _ _ _ b _ (answered_as c.args.held c.args.name true _ c.requires.out c.in_ok-end_session.ensures.answer) (c.in_ok-end_session.ensures.goes claims known)) c.in_ok-drop_name.ensures.goes) c.in_err-end_command.ensures.same_at c.in_err-end_command.ensures.sticks)
 
 pub returns-clause-goes : goal.returns-clause-goes
 returns-clause-goes g c claims known =

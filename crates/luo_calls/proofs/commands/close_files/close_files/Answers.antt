@@ -1,6 +1,6 @@
+use Rattle.luo_calls.proofs.Closes.{loop_sticks, closed_more, closed_none}
 use Rattle.std.proofs.lemmas.Result.{err_from_is_err_and}
 use Rattle.luo_calls.proofs.Chains.{ready_after}
-use Rattle.luo_calls.proofs.Closes.{closed_more, closed_none}
 use Rattle.luo_calls.proofs.Nested.{sticks_later}
 use Rattle.luo_calls.proofs.commands.close_files.close_files.Goals as goal
 
@@ -12,7 +12,8 @@ close_file-requires-clause-ready g c = ready_after _ _ _ _ _ c.requires.ready c.
 
 pub returns-in_err-close_file-clause-stopped : goal.returns-in_err-close_file-clause-stopped
 returns-in_err-close_file-clause-stopped g c =
-    let p = err_from_is_err_and c.from_residual.result c.from_residual.ensures.1 in rw (p.1, p.2) (sticks_later _ _ _ _ _ _ _ _ c.loop-kept.invariant.goes c.in_err-close_file.ensures.stopped)
+    let p = err_from_is_err_and c.from_residual.result c.from_residual.ensures.1 in rw (p.1, p.2)
+    (loop_sticks c.args.files.now c.loop-kept.kept-index _ _ _ _ _ _ _ _ c.loop-kept-test.true c.loop-kept.invariant c.in_err-close_file.ensures.stopped)
 
 pub loop-kept-preserved : goal.loop-kept-preserved
 loop-kept-preserved g c =

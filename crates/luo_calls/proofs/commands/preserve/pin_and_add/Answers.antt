@@ -1,22 +1,26 @@
-use Rattle.std.proofs.Common.{refl, sym, subst, IsTrue}
+use Rattle.luo_calls.specs.Preserved.{added}
+use Rattle.ho_world.specs.Logs.{deed_at, end_with}
+use Rattle.std.proofs.Common.{[], ◌∷◌, ◌++◌, refl, sym, subst, IsTrue}
+use Rattle.luo_calls.proofs.Preserves.{lost_whole, lost_sticks, mark_sticks, admitted_answer, lost_goes, pin_loss, pin_refused, pinned_goes}
+use Rattle.ho_events.specs.declared.reply.Reply.TheVariants.{NotFinished}
+use Rattle.ho_events.specs.declared.event.Event.TheVariants.{FilePin}
+use Rattle.ho_base.specs.Objects.{file_no, session_no}
 use Rattle.std.specs.Prelude.{Some}
 use Rattle.ho_events.specs.declared.reply.Reply.{Reply}
 use Rattle.ho_world.specs.Sequences.Preserving.{is_pin_refusal}
 use Rattle.std.proofs.lemmas.Result.{err_from_is_err_and}
-use Rattle.ho_base.specs.Objects.{session_no}
 use Rattle.luo_calls.specs.declared.stuck.Stuck.{Stuck}
 use Rattle.luo_calls.specs.Opened.{without}
-use Rattle.luo_calls.specs.Stuck.{Sticks}
+use Rattle.luo_calls.specs.Stuck.{Sticks, turn}
 use Rattle.luo_calls.proofs.Chains.{ready_after}
 use Rattle.luo_calls.proofs.Nested as nested
-use Rattle.luo_calls.proofs.Preserves.{admitted_answer, lost_goes, pin_loss, pin_refused, pinned_goes}
 use Rattle.luo_calls.proofs.commands.preserve.pin_and_add.Goals as goal
 
 pub returns-in-Err-clause-sticks : goal.returns-in-Err-clause-sticks
 returns-in-Err-clause-sticks g c =
     let a = g.R.Reach.shown c.args.reach.now in let n = session_no c.args.slot.0 in
-    nested.sticks_first c.args.at.now _ _ (without n a) _ c.in-Err.ensures.same_at
-    (subst (λ (s : Stuck). Sticks c.args.at.now s (without n a) (g.R.Reach.shown c.under.new.reach)) (sym c.under.ensures.stuck)
+    nested.sticks_first (deed_at (file_no c.args.file.0) [] (FilePin []) NotFinished ∷ (added c.args.slot c.args.name c.args.token c.args.file NotFinished ++ end_with NotFinished ∷ [])) (lost_whole c.args.name c.args.token c.args.file c.args.slot NotFinished refl) c.args.at.now _ _ (without n a) _ c.in-Err.ensures.same_at
+    (subst (λ (s : Stuck). Sticks c.args.at.now (turn (file_no c.args.file.0) (FilePin [])) s (without n a) (g.R.Reach.shown c.under.new.reach)) (sym c.under.ensures.stuck)
     (nested.under_at c.args.at.now _ _ n a _ _ _ c.of_session-number.ensures c.in-Err.ensures.sticks c.requires.holds c.under.ensures.ended))
 
 pub mark_and_add-requires-clause-ready : goal.mark_and_add-requires-clause-ready
@@ -26,7 +30,7 @@ pub returns-in_err-mark_and_add-in-OkRuns-clause-sticks : goal.returns-in_err-ma
 returns-in_err-mark_and_add-in-OkRuns-clause-sticks g c =
     let a = g.R.Reach.shown c.args.reach.now in let n = session_no c.args.slot.0 in
     let p = err_from_is_err_and c.from_residual.result c.from_residual.ensures.1 in rw (p.1, p.2)
-    (nested.sticks_later _ _ _ _ _ (without n a) (without n (g.R.Reach.shown c.pin.new.reach)) _ (nested.within_goes _ _ _ n a _ c.in-Ok.ensures.goes) c.in_err-mark_and_add-in-OkRuns.ensures.sticks)
+    (mark_sticks c.args.name c.args.token c.args.file c.args.slot c.in-Ok.pinned.0 c.in-OkRuns.runs c.in-Ok.pinned.1 _ _ _ _ (without n a) (without n (g.R.Reach.shown c.pin.new.reach)) _ c.in-OkRuns.is (nested.within_goes _ _ _ n a _ c.in-Ok.ensures.goes) c.in_err-mark_and_add-in-OkRuns.ensures.sticks)
 
 pub add-requires : goal.add-requires
 add-requires g c =
@@ -46,7 +50,7 @@ returns-in_err-reply-in_default g c =
     (record {
       goes = tt;
       told = tt;
-      sticks = nested.sticks_next _ _ _ _ _ (without n a) (without n (g.R.Reach.shown c.pin.new.reach)) _ (nested.within_goes _ _ _ n a _ c.in-Ok.ensures.goes) c.in_err-reply-in_default.ensures.same_at c.in_err-reply-in_default.ensures.sticks;
+      sticks = lost_sticks c.args.name c.args.token c.args.file c.args.slot _ c.in-Ok.pinned.1 _ _ _ _ (without n a) (without n (g.R.Reach.shown c.pin.new.reach)) _ (pin_refused _ c.in-Ok.ensures.reply c.in_default.not-OkRuns) (nested.within_goes _ _ _ n a _ c.in-Ok.ensures.goes) c.in_err-reply-in_default.ensures.same_at c.in_err-reply-in_default.ensures.sticks;
     })
 
 pub returns-in_ok-mark_and_add-in-OkRuns-clause-goes : goal.returns-in_ok-mark_and_add-in-OkRuns-clause-goes

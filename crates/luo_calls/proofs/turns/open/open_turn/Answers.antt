@@ -6,7 +6,7 @@ use Rattle.luo_calls.proofs.turns.open.open_turn.Goals as goal
 pub returns-in-Err-reserve-clause-sticks : goal.returns-in-Err-reserve-clause-sticks
 returns-in-Err-reserve-clause-sticks g c =
     let r = c.in-Err-reserve.ensures in
-    sticking.sticks_at _ _ _ (g.R.Reach.shown c.args.reach.now) (g.R.Reach.shown c.room.new.self) _ _ _ c.requires.free c.room.ensures.kept c.begin-state.ensures.taken c.begin-state.ensures.found
+    sticking.sticks_at _ _ _ _ (g.R.Reach.shown c.args.reach.now) (g.R.Reach.shown c.room.new.self) _ _ _ c.requires.free c.room.ensures.kept c.begin-state.ensures.taken c.begin-state.ensures.found
     (record { start = r.start; history = r.history; kind = r.kind; number = r.number; machine = r.machine }) tt
 
 pub returns-clause-opens : goal.returns-clause-opens

@@ -1,3 +1,5 @@
+use Rattle.luo_calls.proofs.Sticking.{sticks_any}
+use Rattle.std.proofs.lemmas.Result.{err_from_is_err_and}
 use Rattle.std.proofs.Common.{refl, [], subst, sym}
 use Rattle.phys_frames.specs.Memory.{AreOf, first_frames}
 use Rattle.ho_events.specs.declared.event.Event.TheVariants.{PoolGive}
@@ -25,3 +27,7 @@ returns-clause-goes g c =
 pub give-entry-requires-clause-of_home : goal.give-entry-requires-clause-of_home
 give-entry-requires-clause-of_home g c =
     all_of _ _ (subst (λ h. AreOf h c.args.folios.now.items) (sym c.in_ok-slip.ensures.opens.found.machine.1) c.requires.of_home)
+
+pub returns-in_err-slip-clause-sticks : goal.returns-in_err-slip-clause-sticks
+returns-in_err-slip-clause-sticks g c =
+    let p = err_from_is_err_and c.from_residual.result c.from_residual.ensures.1 in rw (p.1, p.2) (sticks_any _ _ _ _ _ c.in_err-slip.ensures.sticks)

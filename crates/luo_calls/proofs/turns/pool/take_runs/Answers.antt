@@ -1,3 +1,5 @@
+use Rattle.luo_calls.proofs.Sticking.{sticks_any}
+use Rattle.std.proofs.lemmas.Result.{err_from_is_err_and}
 use Rattle.std.proofs.Common.{refl, []}
 use Rattle.luo_calls.specs.Takes.{TookWith}
 use Rattle.luo_calls.proofs.PoolHalts.{claimed_open}
@@ -20,3 +22,7 @@ returns-clause-got g c =
       | in-Got w ↦ took_some _ _ _ _ _ _ _ _ _ _ w.got-is w.of.ensures w.in-Got.is turned
       | in_default w ↦ took_none _ _ _ _ _ _ _ _ w.got-is (no_frames _ _ c.take-entry.ensures.reply w.in_default.not-Got) turned
     ]
+
+pub returns-in_err-slip-clause-sticks : goal.returns-in_err-slip-clause-sticks
+returns-in_err-slip-clause-sticks g c =
+    let p = err_from_is_err_and c.from_residual.result c.from_residual.ensures.1 in rw (p.1, p.2) (sticks_any _ _ _ _ _ c.in_err-slip.ensures.sticks)

@@ -1,3 +1,5 @@
+use Rattle.luo_calls.proofs.Sticking.{sticks_any}
+use Rattle.std.proofs.lemmas.Result.{err_from_is_err_and}
 use Rattle.std.proofs.Common.{refl, [], inl, inr}
 use Rattle.luo_calls.proofs.FileHalts.{broken_file_sticks, is_shut}
 use Rattle.luo_calls.proofs.KindTurns as kinds
@@ -5,8 +7,8 @@ use Rattle.luo_calls.proofs.turns.read.read_file.Goals as goal
 
 pub returns-then-not-is_open-clause-sticks : goal.returns-then-not-is_open-clause-sticks
 returns-then-not-is_open-clause-sticks g c =
-    broken_file_sticks _ _ _ _ _ c.in_ok-slip.object _ c.of_file-number.ensures c.requires.free c.in_ok-slip.ensures.opens
-    (inr (inl (is_shut c.in_ok-slip.object _ c.if-not-is_open.true c.is_open.ensures)))
+    broken_file_sticks _ _ _ _ _ c.in_ok-slip.object (FileRead c.args.off c.args.len) _ c.of_file-number.ensures c.requires.free c.in_ok-slip.ensures.opens
+    (inr (inl (refl, is_shut c.in_ok-slip.object _ c.if-not-is_open.true c.is_open.ensures)))
     c.broken_file.ensures.halt c.broken_file.ensures.held
 
 pub end-requires : goal.end-requires
@@ -17,3 +19,7 @@ end-requires g c =
 pub returns-clause-goes : goal.returns-clause-goes
 returns-clause-goes g c =
     kinds.file_turned_at _ _ _ _ _ c.read-entry.new.self [] _ _ _ c.in_ok-slip.ensures.opens c.requires.free _ c.in_ok-slip.ensures.at c.read-entry.ensures.told _ c.of_file-number.ensures _ tt c.end.ensures
+
+pub returns-in_err-slip-clause-sticks : goal.returns-in_err-slip-clause-sticks
+returns-in_err-slip-clause-sticks g c =
+    let p = err_from_is_err_and c.from_residual.result c.from_residual.ensures.1 in rw (p.1, p.2) (sticks_any _ _ _ _ _ c.in_err-slip.ensures.sticks)

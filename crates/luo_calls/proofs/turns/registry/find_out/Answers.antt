@@ -1,3 +1,5 @@
+use Rattle.luo_calls.proofs.Sticking.{sticks_any}
+use Rattle.std.proofs.lemmas.Result.{err_from_is_err_and}
 use Rattle.luo_calls.proofs.Replies.{find_replied}
 use Rattle.luo_calls.proofs.KindTurns as kinds
 use Rattle.luo_calls.proofs.turns.registry.find_out.Goals as goal
@@ -13,3 +15,7 @@ returns-clause-goes g c =
 
 pub returns-clause-reply : goal.returns-clause-reply
 returns-clause-reply g c = find_replied _ _ c.args.name c.find_out-entry.ensures.exact c.find_out-entry.ensures.within
+
+pub returns-in_err-slip-clause-sticks : goal.returns-in_err-slip-clause-sticks
+returns-in_err-slip-clause-sticks g c =
+    let p = err_from_is_err_and c.from_residual.result c.from_residual.ensures.1 in rw (p.1, p.2) (sticks_any _ _ _ _ _ c.in_err-slip.ensures.sticks)

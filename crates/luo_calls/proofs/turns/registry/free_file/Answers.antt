@@ -1,3 +1,5 @@
+use Rattle.luo_calls.proofs.Sticking.{sticks_any}
+use Rattle.std.proofs.lemmas.Result.{err_from_is_err_and}
 use Rattle.std.proofs.Common.{refl}
 use Rattle.ho_events.specs.declared.event.Event.TheVariants.{RegFreeFile}
 use Rattle.luo_calls.proofs.Cannot.{registry_cannot}
@@ -19,3 +21,7 @@ end-requires g c =
 pub returns-clause-goes : goal.returns-clause-goes
 returns-clause-goes g c =
     kinds.registry_turned _ _ _ _ c.free_file-entry.new.self _ _ _ c.in_ok-slip.ensures.opens c.requires.free _ c.in_ok-slip.ensures.at c.free_file-entry.ensures.told _ c.end.ensures
+
+pub returns-in_err-slip-clause-sticks : goal.returns-in_err-slip-clause-sticks
+returns-in_err-slip-clause-sticks g c =
+    let p = err_from_is_err_and c.from_residual.result c.from_residual.ensures.1 in rw (p.1, p.2) (sticks_any _ _ _ _ _ c.in_err-slip.ensures.sticks)

@@ -1,3 +1,5 @@
+use Rattle.luo_calls.proofs.Sticking.{sticks_any}
+use Rattle.std.specs.Prelude.{None}
 use Rattle.std.specs.Vec.{vec_len}
 use Rattle.std.proofs.Common.{◌≡◌, length, arith, refl, [], ◌∷◌, ap, sym, subst, ◌∙◌}
 use Rattle.ho_base.specs.Objects.{file_no}
@@ -35,8 +37,8 @@ destroy_empty-requires g c =
 pub returns-in-Err-clause-sticks : goal.returns-in-Err-clause-sticks
 returns-in-Err-clause-sticks g c =
     let a = g.R.Reach.shown c.args.reach.now in let n = file_no c.args.file.0 in
-    subst (λ (s : Stuck). Sticks c.args.at.now s (without n a) (g.R.Reach.shown c.under-stuck.new.reach)) (sym c.under-stuck.ensures.stuck)
-    (under_at c.args.at.now _ _ n a _ _ _ c.of_file-number.ensures c.in-Err.ensures.sticks c.requires.holds c.under-stuck.ensures.ended)
+    sticks_any _ _ _ _ _ (subst (λ (s : Stuck). Sticks c.args.at.now None s (without n a) (g.R.Reach.shown c.under-stuck.new.reach)) (sym c.under-stuck.ensures.stuck)
+    (under_at c.args.at.now _ _ n a _ _ _ c.of_file-number.ensures c.in-Err.ensures.sticks c.requires.holds c.under-stuck.ensures.ended))
 
 pub returns-in-Err-clause-given_up : goal.returns-in-Err-clause-given_up
 returns-in-Err-clause-given_up g c = subst (AreOf _) (sym c.requires.fills) (zeroed_home _ _)

@@ -1,3 +1,5 @@
+use Rattle.luo_calls.proofs.Sticking.{sticks_any}
+use Rattle.std.specs.Prelude.{None}
 use Rattle.std.proofs.Common.{refl, [], ◌∷◌, ap, sym, ◌∙◌}
 use Rattle.ho_base.specs.Objects.{file_no}
 use Rattle.ho_base.specs.declared.numbers.Kind.TheVariants.{Memfd}
@@ -18,3 +20,9 @@ returns-clause-goes g c =
     (starved_reply _ _ _ _ _ _ c.new-fills.ensures.len c.end_write-reply.ensures.exact c.requires.touched)
     (goes_from_room _ _ _ (file_no c.args.file.0) (g.R.Reach.shown c.args.reach.now) _ _ c.in-Ok.ensures.kept
     (c.end_write-reply.ensures.goes claims (memfd_claimed (g.R.Reach.shown c.resume.new.reach) (g.R.Reach.shown c.resume.new.reach).hands c.args.file c.args.object c.args.order (ap (λ (x : Agent). x.hands (file_no c.args.file.0)) c.in-Ok.ensures.kept ∙ c.requires.holds.held) c.requires.memfd)))
+
+pub returns-in-Err-clause-sticks : goal.returns-in-Err-clause-sticks
+returns-in-Err-clause-sticks g c =
+    let a = g.R.Reach.shown c.args.reach.now in let n = file_no c.args.file.0 in
+    sticks_any _ _ _ _ _ (subst (λ (s : Stuck). Sticks c.args.at.now None s (without n a) (g.R.Reach.shown c.under.new.reach)) (sym c.under.ensures.stuck)
+    (under_at c.args.at.now _ _ n a _ _ _ c.of_file-number.ensures c.in-Err.ensures.sticks c.requires.holds c.under.ensures.ended))
