@@ -3,13 +3,15 @@
 ghost use Rattle.std.specs.Prelude.{◌≡◌, ◌<◌, ◌≤◌, ◌++◌, ◌∷◌, [], IfOk, IfErr, OnOk, OnErr, length};
 ghost use Rattle.ho_events.specs.Slips.{reply_runs};
 ghost use Rattle.ho_world.specs.Logs.{end_with};
+ghost use Rattle.ho_world.specs.Sequences.{command_acts};
+ghost use Rattle.ho_world.specs.Sequences.Files.{close_fd_acts};
 ghost use Rattle.phys_frames.specs.Memory.{AreOf, first_frames};
 ghost use Rattle.machine_core.specs.Agents.{Agent, no_hands};
 ghost use Rattle.machine_core.specs.Commands.{Comes, Halts};
 ghost use Rattle.machine_core.specs.Turns.{IsReady, Goes};
 ghost use Rattle.luo_calls.specs.Closing.{deeds};
 ghost use Rattle.luo_calls.specs.ClosingFds.{ClosesLabel, after_close_fd};
-ghost use Rattle.luo_calls.specs.Doing.{SticksAfter};
+ghost use Rattle.luo_calls.specs.Doing.{AreWhole, SticksAfter};
 ghost use Rattle.luo_calls.specs.Replies.{IsCloseFdReply, IsGivenUp};
 
 use crate::commands::close_files::give_any;
@@ -42,7 +44,7 @@ pub fn close_fd<R: Reach>(
     requires ready { IsReady at.old (R.shown reach.old) }
     requires free { (R.shown reach.old).hands ≡ no_hands }
     ensures comes { IfOk result (λ reply. Comes labels.old.bound labels.new.bound (Command.CloseFd label) reply at.old at.new (R.shown reach.old) (R.shown reach.new)) }
-    ensures halts { IfErr result (λ h. Halts labels.old.bound labels.new.bound h.1 at.old at.new (R.shown reach.old) (R.shown reach.new)) }
+    ensures halts { IfErr result (λ h. Halts labels.old.bound labels.new.bound (Command.CloseFd label) h.1 at.old at.new (R.shown reach.old) (R.shown reach.new)) }
     ensures given_up { IfErr result (λ h. AreOf (R.shown reach.old).anchor.home h.0.items) }
 {
     match close_fd_turns(alloc, reach, labels, at, label) {
@@ -62,7 +64,7 @@ fn close_fd_turns<R: Reach>(
     requires ready { IsReady at.old (R.shown reach.old) }
     requires free { (R.shown reach.old).hands ≡ no_hands }
     ensures comes { IfOk result (λ reply. Comes labels.old.bound labels.new.bound (Command.CloseFd label) reply at.old at.new (R.shown reach.old) (R.shown reach.new)) }
-    ensures stopped { IfErr result (λ s. SticksAfter s.stuck at.old at.new (R.shown reach.old) (R.shown reach.new)) }
+    ensures stopped { IfErr result (λ s. SticksAfter (AreWhole (command_acts labels.old.bound (Command.CloseFd label))) s.stuck at.old at.new (R.shown reach.old) (R.shown reach.new)) }
     ensures given_up { IfErr result (λ s. AreOf (R.shown reach.old).anchor.home s.folios.items) }
     ensures kept { OnErr result (labels.new.bound ≡ labels.old.bound) }
 {
@@ -88,7 +90,7 @@ fn close_label<R: Reach>(
     requires free { (R.shown reach.old).hands ≡ no_hands }
     requires file { file.0 < FILES }
     ensures closes { OnOk result (ClosesLabel file at.old at.new (R.shown reach.old) (R.shown reach.new)) }
-    ensures stopped { IfErr result (λ s. SticksAfter s.stuck at.old at.new (R.shown reach.old) (R.shown reach.new)) }
+    ensures stopped { IfErr result (λ s. SticksAfter (AreWhole (close_fd_acts file)) s.stuck at.old at.new (R.shown reach.old) (R.shown reach.new)) }
     ensures given_up { IfErr result (λ s. AreOf (R.shown reach.old).anchor.home s.folios.items) }
 {
     let Ok(mut given) = Vec::with_capacity(alloc, 1) else {
@@ -138,7 +140,7 @@ fn end_label<R: Reach>(
     requires given { IsGivenUp (R.shown reach.old).anchor.home reply.now given.old.items }
     ensures goes { OnOk result (Goes (deeds (after_close_fd file order reply.now) ++ end_with Reply.Ok ∷ []) at.old at.new (R.shown reach.old) (R.shown reach.new)) }
     ensures given { OnOk result (given.new.items ≡ []) }
-    ensures sticks { IfErr result (λ stuck. SticksAfter stuck at.old at.new (R.shown reach.old) (R.shown reach.new)) }
+    ensures sticks { IfErr result (λ stuck. SticksAfter (λ ds. ds ≡ deeds (after_close_fd file order reply.now) ++ end_with Reply.Ok ∷ []) stuck at.old at.new (R.shown reach.old) (R.shown reach.new)) }
     ensures given_up { OnErr result (AreOf (R.shown reach.old).anchor.home given.new.items) }
 {
     match reply {
@@ -165,7 +167,7 @@ fn end_gone<R: Reach>(
     requires of_home { AreOf (R.shown reach.old).anchor.home given.old.items }
     ensures goes { OnOk result (Goes (deeds (after_close_fd file order (Reply.Gone (first_frames given.old.items))) ++ end_with Reply.Ok ∷ []) at.old at.new (R.shown reach.old) (R.shown reach.new)) }
     ensures given { OnOk result (given.new.items ≡ []) }
-    ensures sticks { IfErr result (λ stuck. SticksAfter stuck at.old at.new (R.shown reach.old) (R.shown reach.new)) }
+    ensures sticks { IfErr result (λ stuck. SticksAfter (λ ds. ds ≡ deeds (after_close_fd file order (Reply.Gone (first_frames given.old.items))) ++ end_with Reply.Ok ∷ []) stuck at.old at.new (R.shown reach.old) (R.shown reach.new)) }
     ensures given_up { OnErr result (AreOf (R.shown reach.old).anchor.home given.new.items) }
 {
     give_any(alloc, reach, at, order, given)?;

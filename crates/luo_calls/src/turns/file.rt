@@ -168,7 +168,7 @@ pub fn close_fd<R: Reach>(
     ensures single { IfOk result (λ r. r.0.0 ≡ 0) }
     ensures given { IfOk result (λ r. IsGivenUp (R.shown reach.old).anchor.home r.1 given.new.items) }
     ensures goes { IfOk result (λ r. Goes (deed_at (file_no file.0) (read_of file r.0 r.1) Event.FileCloseFd r.1 ∷ []) at.old at.new (R.shown reach.old) (R.shown reach.new)) }
-    ensures sticks { IfErr result (λ stuck. Sticks at.old stuck (R.shown reach.old) (R.shown reach.new)) }
+    ensures sticks { IfErr result (λ stuck. Sticks at.old (turn (file_no file.0) Event.FileCloseFd) stuck (R.shown reach.old) (R.shown reach.new)) }
     ensures same_at { OnErr result (at.new ≡ at.old) }
     ensures err_given { OnErr result (given.new.items ≡ []) }
 {

@@ -1,3 +1,5 @@
+use Rattle.luo_calls.proofs.Sticking.{sticks_any}
+use Rattle.std.proofs.lemmas.Result.{err_from_is_err_and}
 use Rattle.std.proofs.Common.{refl, [], ◌∷◌, inl, inr, sym, subst, ap}
 use Rattle.ho_events.specs.declared.event.Event.TheVariants.{FileCloseFd}
 use Rattle.luo_calls.specs.ClosingFds.{read_of}
@@ -10,8 +12,8 @@ use Rattle.luo_calls.proofs.turns.file.close_fd.Goals as goal
 
 pub returns-then-not-is_open-clause-sticks : goal.returns-then-not-is_open-clause-sticks
 returns-then-not-is_open-clause-sticks g c =
-    broken_file_sticks _ _ _ _ _ c.in_ok-slip.object _ c.of_file-number.ensures c.requires.free c.in_ok-slip.ensures.opens
-    (inl (FileCloseFd, file_cannot c.in_ok-slip.object FileCloseFd (cannot_close_fd _ _ c.if-not-is_open.true c.is_open.ensures) c.args.at.now _))
+    broken_file_sticks _ _ _ _ _ c.in_ok-slip.object FileCloseFd _ c.of_file-number.ensures c.requires.free c.in_ok-slip.ensures.opens
+    (inl (file_cannot c.in_ok-slip.object FileCloseFd (cannot_close_fd _ _ c.if-not-is_open.true c.is_open.ensures) c.args.at.now _))
     c.broken_file.ensures.halt c.broken_file.ensures.held
 
 pub end-requires : goal.end-requires
@@ -28,3 +30,7 @@ returns-clause-goes g c =
     kinds.file_turned_at _ _ _ _ _ c.close_fd-entry.new.self (read_of c.args.file c.in-Some.order c.close_fd-entry.result.value) _ _ _ c.in_ok-slip.ensures.opens c.requires.free _ c.in_ok-slip.ensures.at c.close_fd-entry.ensures.told _ c.of_file-number.ensures _
     (read_claimed (g.R.Reach.shown c.args.reach.now) (g.R.Reach.shown c.open_file.new.reach).hands c.args.file c.in-Some.order c.close_fd-entry.result.value
     (file_claimed (g.R.Reach.shown c.args.reach.now) (g.R.Reach.shown c.open_file.new.reach).hands c.args.file c.in_ok-slip.object _ c.in-Some.order (has _ _ _ _ _ c.in_ok-slip.ensures.opens) c.in-Some.ensures c.facts.ensures.exact)) c.end.ensures
+
+pub returns-in_err-slip-clause-sticks : goal.returns-in_err-slip-clause-sticks
+returns-in_err-slip-clause-sticks g c =
+    let p = err_from_is_err_and c.from_residual.result c.from_residual.ensures.1 in rw (p.1, p.2) (sticks_any _ _ _ _ _ c.in_err-slip.ensures.sticks)
