@@ -66,6 +66,47 @@ const NO_FRAMES: &[u8] = b"0 1 1 1 reg new_file = Ok f0\n\
 0 17 1 5 reg drop_name s = Ok\n\
 0 18 1 5 self done = Ok\n";
 
+// A label ends while a session has its file; the session's end gives the file up then, and its name is free again.
+const CLOSED_LABEL: &[u8] = b"machine 64\n\
+scratch 1 8\n\
+round\n\
+agent a\n\
+memfd m 0\n\
+write m 0 68656c6c6f\n\
+create s\n\
+preserve s 7 m\n\
+closefd m\n\
+close s\n\
+create s\n";
+
+const LABEL_CLOSED: &[u8] = b"0 1 1 1 reg new_file = Ok f0\n\
+0 2 1 1 f0 init memfd 0 0 [] = Ok\n\
+0 3 1 1 self done = Ok\n\
+0 4 1 2 pool take 0 1 = Got [9]\n\
+0 5 1 2 f0 write 0 68656c6c6f [9] = Ok\n\
+0 6 1 2 self done = Ok\n\
+0 7 1 3 reg create s = Ok s0\n\
+0 8 1 3 s0 begin s = Ok\n\
+0 9 1 3 self done = Ok\n\
+0 10 1 4 reg find_out s = Ok s0\n\
+0 11 1 4 f0 pin [] = Ok [9]\n\
+0 12 1 4 pool mark 0 [9] = Ok\n\
+0 13 1 4 s0 add s 7 f0 0 = Ok\n\
+0 14 1 4 self done = Ok\n\
+0 15 1 5 f0 close_fd = Kept\n\
+0 16 1 5 self done = Ok\n\
+0 17 1 6 reg find_out s = Ok s0\n\
+0 18 1 6 f0 unpin = Gone [9]\n\
+0 19 1 6 pool unmark 0 [9] = Ok\n\
+0 20 1 6 pool give 0 [9] = Ok\n\
+0 21 1 6 reg free_file f0 = Ok\n\
+0 22 1 6 s0 close s = Ok\n\
+0 23 1 6 reg drop_name s = Ok\n\
+0 24 1 6 self done = Ok\n\
+0 25 1 7 reg create s = Ok s0\n\
+0 26 1 7 s0 begin s = Ok\n\
+0 27 1 7 self done = Ok\n";
+
 // Whether a script, run in memory, has exactly this output. Where it has, the definitions say of this text that it is the
 // text of a legal history of the script.
 #[tactic(auto, using(crate::proofs::Shown::shown))]
@@ -93,5 +134,11 @@ fn the_first_path_without_a_free_frame_is_legal(rt: HostRuntime) -> Result<(), F
 #[test]
 fn a_token_twice_is_legal(rt: HostRuntime) -> Result<(), Fail> {
     assert!(rt; has_history(rt.alloc(), TOKEN_TWICE, TOKEN_TAKEN)?);
+    Ok(())
+}
+
+#[test]
+fn a_closed_label_is_legal(rt: HostRuntime) -> Result<(), Fail> {
+    assert!(rt; has_history(rt.alloc(), CLOSED_LABEL, LABEL_CLOSED)?);
     Ok(())
 }
