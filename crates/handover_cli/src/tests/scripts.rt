@@ -123,6 +123,10 @@ fn gives_the_first_reason_of_a_command(rt: HostRuntime) -> Result<(), Fail> {
         ),
         ("memfd m 0\npreserve s 7 m\nwrite m 0 68", None),
         ("memfd m 0\npreserve s 7 m\npreserve s 8 m", None),
+        ("closefd m\nmemfd m 0\nclosefd m\nwrite m 0 68", None),
+        ("memfd m 0\nclosefd m\nmemfd m 0", Some((7, Reason::Label))),
+        ("closefd", Some((5, Reason::Count))),
+        ("closefd m/", Some((5, Reason::Name))),
         ("tell", Some((5, Reason::Later))),
         (
             "create nnnnnnnnnnnnnnnnnnnnnnnnnnnnnnnnnnnnnnnnnnnnnnnnnnnnnnnnnnnnnnnn",

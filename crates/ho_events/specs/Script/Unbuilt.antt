@@ -10,7 +10,7 @@ use Rattle.ho_events.specs.declared.line.Line.TheVariants.{Agent, Command as Act
 use Rattle.ho_events.specs.declared.line.Verb.{Verb}
 use Rattle.ho_events.specs.declared.line.Verb.TheVariants as verb
 
--- the first words whose lines aren't built: all but these ten
+-- the first words whose lines aren't built: all but these eleven
 abbrev pub is_unbuilt_verb : Verb → Bool
 is_unbuilt_verb verb.Machine = false
 is_unbuilt_verb verb.Scratch = false
@@ -19,6 +19,7 @@ is_unbuilt_verb verb.Agent = false
 is_unbuilt_verb verb.Memfd = false
 is_unbuilt_verb verb.Write = false
 is_unbuilt_verb verb.Read = false
+is_unbuilt_verb verb.CloseFd = false
 is_unbuilt_verb verb.Create = false
 is_unbuilt_verb verb.Preserve = false
 is_unbuilt_verb verb.Close = false

@@ -112,6 +112,7 @@ pub fn is_unbuilt_verb(verb: Verb) -> bool
         | Verb::Memfd
         | Verb::Write
         | Verb::Read
+        | Verb::CloseFd
         | Verb::Create
         | Verb::Preserve
         | Verb::Close => false,
