@@ -1,8 +1,8 @@
 -- The sequences of `closefd`.
-use Rattle.std.proofs.Common.{◌≡◌, ℕ, ◌≤◌, List, [], ◌∷◌, ◌++◌, map, length, refl, sym, ap, subst, ◌∙◌, append_assoc}
-use Rattle.std.specs.Prelude.{None, Some, Result, OnOk, IfErr}
+use Rattle.std.proofs.Common.{◌≡◌, List, [], ◌∷◌, ◌++◌, refl, sym, ap, subst, ◌∙◌, append_assoc}
+use Rattle.std.specs.Prelude.{None, Some}
 use Rattle.std.specs.FinMap as finmap
-use Rattle.std.proofs.lemmas.List.{map-append, length-map}
+use Rattle.std.proofs.lemmas.List.{map-append}
 use Rattle.ho_base.specs.Objects.{file_no, registry_no}
 use Rattle.ho_base.specs.declared.numbers.FileNo.{FileNo}
 use Rattle.ho_base.specs.declared.numbers.Kind.TheVariants.{Memfd}
@@ -13,21 +13,17 @@ use Rattle.ho_events.specs.declared.event.Event.TheVariants.{FileCloseFd, RegFre
 use Rattle.ho_events.specs.declared.reply.Reply.{Reply}
 use Rattle.ho_events.specs.declared.reply.Reply.TheVariants.{Ok, BadFd, Kept, Gone}
 use Rattle.ho_events.specs.declared.slip.At.{At}
-use Rattle.ho_events.specs.Slips.{reply_runs}
 use Rattle.ho_world.specs.Acts.{IsFile, file, registry}
 use Rattle.ho_world.specs.Logs.{Deed, deed_at, deed_of, end_with}
 use Rattle.ho_world.specs.Sequences.{Labels, NoFile, CloseFdCame, on_label, closed_fd, command_acts}
 use Rattle.ho_world.specs.Sequences.Files.{LabelKept, LabelGone, close_fd_acts}
-use Rattle.phys_frames.specs.Homes.{HomeId}
-use Rattle.phys_frames.specs.Memory.{AreOf, FolioValue, first_frames}
 use Rattle.machine_core.specs.Agents.{Agent}
 use Rattle.machine_core.specs.Commands.{Comes}
 use Rattle.machine_core.specs.Turns.{Goes}
 use Rattle.luo_calls.specs.Closing.{deeds, given_back}
 use Rattle.luo_calls.specs.ClosingFds.{ClosesLabel, after_close_fd, read_of}
-use Rattle.luo_calls.specs.Doing.{AreWhole, SticksAfter}
-use Rattle.luo_calls.specs.Replies.{IsCloseFdReply, IsGivenUp}
-use Rattle.luo_calls.specs.declared.stuck.Stuck.{Stuck}
+use Rattle.luo_calls.specs.Doing.{AreWhole}
+use Rattle.luo_calls.specs.Replies.{IsCloseFdReply}
 use Rattle.luo_calls.proofs.Chains.{then_goes}
 
 -- ---- the turns after the file's
@@ -46,33 +42,10 @@ pub gone_deeds_end : (f : FileNo) (o : Order) (runs : List Pfn) → (deeds (give
 gone_deeds_end f o runs = append_assoc (deeds (given_back o runs)) (freed f) (end_with Ok ∷ []) ∙ sym (gone_deeds f o runs)
 
 -- the folios go back, and the number, and the command ends
-pub gone_ends : (f : FileNo) (o : Order) (folios : List FolioValue) (at at1 at2 at3 : At) (a a1 a2 a3 : Agent) → Goes (deeds (given_back o (first_frames folios))) at at1 a a1 → Goes (freed f) at1 at2 a1 a2 → Goes (end_with Ok ∷ []) at2 at3 a2 a3 → Goes (deeds (after_close_fd f o (Gone (first_frames folios))) ++ end_with Ok ∷ []) at at3 a a3
-gone_ends f o folios at at1 at2 at3 a a1 a2 a3 g h k =
-    subst (λ ds. Goes ds at at3 a a3) (sym (gone_deeds f o (first_frames folios)))
+pub gone_ends : (f : FileNo) (o : Order) (runs : List Pfn) (at at1 at2 at3 : At) (a a1 a2 a3 : Agent) → Goes (deeds (given_back o runs)) at at1 a a1 → Goes (freed f) at1 at2 a1 a2 → Goes (end_with Ok ∷ []) at2 at3 a2 a3 → Goes (deeds (after_close_fd f o (Gone runs)) ++ end_with Ok ∷ []) at at3 a a3
+gone_ends f o runs at at1 at2 at3 a a1 a2 a3 g h k =
+    subst (λ ds. Goes ds at at3 a a3) (sym (gone_deeds f o runs))
     (then_goes _ _ at at1 at3 a a1 a3 g (then_goes _ _ at1 at2 at3 a1 a2 a3 h k))
-
--- the reply lists the frames of the folios that the file gave up
-module _ (home : HomeId) (reply : Reply) (runs : List Pfn) (folios : List FolioValue) (is : reply ≡ Gone runs) (given : IsGivenUp home reply folios) where
-  both : IsGivenUp home (Gone runs) folios
-  both = subst (λ (r : Reply). IsGivenUp home r folios) is given
-
-  lists : reply ≡ Gone (first_frames folios)
-  lists = is ∙ ap (λ rs. Gone rs) (sym both.0)
-
-  pub of_home : AreOf home folios
-  of_home = both.1
-
-  pub few_folios : length (reply_runs reply) ≤ 1 → length folios ≤ 1
-  few_folios few =
-      let counted : length (map (λ (f : FolioValue). f.first) folios) ≤ 1 = subst (λ (r : Reply). length (reply_runs r) ≤ 1) lists few in
-      subst (λ n. n ≤ 1) (length-map folios (λ (f : FolioValue). f.first)) counted
-
-  pub gone_by : {X : Type 0} (f : FileNo) (o : Order) (at at1 : At) (a a1 : Agent) (r : Result X Stuck) → OnOk r (Goes (deeds (after_close_fd f o (Gone (first_frames folios))) ++ end_with Ok ∷ []) at at1 a a1) → OnOk r (Goes (deeds (after_close_fd f o reply) ++ end_with Ok ∷ []) at at1 a a1)
-  gone_by f o at at1 a a1 r h = subst (λ (x : Reply). OnOk r (Goes (deeds (after_close_fd f o x) ++ end_with Ok ∷ []) at at1 a a1)) (sym lists) h
-
-  pub gone_sticks : {X : Type 0} (f : FileNo) (o : Order) (at at1 : At) (a a1 : Agent) (r : Result X Stuck) → IfErr r (λ stuck. SticksAfter (λ ds. ds ≡ deeds (after_close_fd f o (Gone (first_frames folios))) ++ end_with Ok ∷ []) stuck at at1 a a1) → IfErr r (λ stuck. SticksAfter (λ ds. ds ≡ deeds (after_close_fd f o reply) ++ end_with Ok ∷ []) stuck at at1 a a1)
-  gone_sticks f o at at1 a a1 r h =
-      subst (λ (x : Reply). IfErr r (λ stuck. SticksAfter (λ ds. ds ≡ deeds (after_close_fd f o x) ++ end_with Ok ∷ []) stuck at at1 a a1)) (sym lists) h
 
 -- ---- the whole command
 

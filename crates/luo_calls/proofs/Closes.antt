@@ -349,9 +349,9 @@ pub no_memory : {W : List Deed → Type 0} → (due : List Deed) → W due → (
 no_memory due front at stuck a is =
     sticks_first due front at at stuck a a refl (subst (λ (s : Stuck). Sticks at (turn_of due) s a a) (sym is) (record { same = refl; cause = tt }))
 
-pub stuck_at_once : {X : Type 0} {W : List Deed → Type 0} → (due : List Deed) → W due → (at at1 : At) (a a1 : Agent) (r : Result X Stuck) → OnErr r (at1 ≡ at) → IfErr r (λ stuck. Sticks at (turn_of due) stuck a a1) → IfErr r (λ stuck. SticksAfter W stuck at at1 a a1)
-stuck_at_once due front at at1 a a1 (result.Ok x) same s = tt
-stuck_at_once due front at at1 a a1 (result.Err stuck) same s = sticks_first due front at at1 stuck a a1 same s
+pub stuck_at_once : {X : Type 0} → (W : List Deed → Type 0) (due : List Deed) → W due → (at at1 : At) (a a1 : Agent) (r : Result X Stuck) → OnErr r (at1 ≡ at) → IfErr r (λ stuck. Sticks at (turn_of due) stuck a a1) → IfErr r (λ stuck. SticksAfter W stuck at at1 a a1)
+stuck_at_once W due front at at1 a a1 (result.Ok x) same s = tt
+stuck_at_once W due front at at1 a a1 (result.Err stuck) same s = sticks_first due front at at1 stuck a a1 same s
 
 -- after the unmark, the give of a file that is gone, or its number's end, can't be taken
 pub after_unmark : (f : FileNo) (o : Order) (runs : List Pfn) → deeds (after_unpin f o (Gone runs)) ≡ deeds (unmarked o runs) ++ (deeds (given_back o runs) ++ deed_at registry_no [] (RegFreeFile f) Ok ∷ [])
@@ -391,7 +391,7 @@ under_after at at1 stuck m n a a1 a2 o is s h gave = record {
   front = s.front;
   middle = without n s.middle;
   goes = within_goes s.deeds at at1 n a s.middle s.goes;
-  sticks = under_at at1 stuck m n s.middle a1 a2 o is s.sticks (holds_goes s.deeds at at1 n a s.middle o h s.goes) gave;
+  sticks = under_at _ at1 stuck m n s.middle a1 a2 o is s.sticks (holds_goes s.deeds at at1 n a s.middle o h s.goes) gave;
 }
 
 pub outer_closes : (name : List ℕ) (slot : SlotNo) (reply : Reply) (at at1 : At) (n : ℕ) (a a1 a2 : Agent) (o : Object) → Opens at n a a1 o → a.hands n ≡ None → ClosesSlot name slot reply at at1 (without n a1) a2 → ClosesSlot name slot reply at at1 a a2
@@ -468,14 +468,14 @@ pub outer_closes_if : (name : List ℕ) (slot : SlotNo) (at at1 : At) (n : ℕ) 
 outer_closes_if name slot at at1 n a a1 a2 o (result.Ok reply) opens free h = outer_closes name slot reply at at1 n a a1 a2 o opens free h
 outer_closes_if name slot at at1 n a a1 a2 o (result.Err s) opens free h = tt
 
-pub outer_stops_if : {W : List Deed → Type 0} → (at at1 : At) (n : ℕ) (a a1 a2 : Agent) (o : Object) (r : Result Reply Stopped) → Opens at n a a1 o → a.hands n ≡ None → IfErr r (λ s. SticksAfter W s.stuck at at1 (without n a1) a2) → IfErr r (λ s. SticksAfter W s.stuck at at1 a a2)
-outer_stops_if at at1 n a a1 a2 o (result.Ok reply) opens free h = tt
-outer_stops_if at at1 n a a1 a2 o (result.Err s) opens free h = outer_sticks at at1 s.stuck n a a1 a2 o opens free h
+pub outer_stops_if : (W : List Deed → Type 0) (at at1 : At) (n : ℕ) (a a1 a2 : Agent) (o : Object) (r : Result Reply Stopped) → Opens at n a a1 o → a.hands n ≡ None → IfErr r (λ s. SticksAfter W s.stuck at at1 (without n a1) a2) → IfErr r (λ s. SticksAfter W s.stuck at at1 a a2)
+outer_stops_if W at at1 n a a1 a2 o (result.Ok reply) opens free h = tt
+outer_stops_if W at at1 n a a1 a2 o (result.Err s) opens free h = outer_sticks at at1 s.stuck n a a1 a2 o opens free h
 
 pub slot_comes_if : (name : List ℕ) (slot : SlotNo) (at at1 at2 : At) (a a1 a2 : Agent) (r : Result Reply Stopped) → Goes (deed_at registry_no [] (RegFindOut name) (OkSlot slot) ∷ []) at at1 a a1 → IfOk r (λ reply. ClosesSlot name slot reply at1 at2 a1 a2) → IfOk r (λ reply. (labels : Labels) → Comes labels labels (command.Close name) reply at at2 a a2)
 slot_comes_if name slot at at1 at2 a a1 a2 (result.Ok reply) g h = λ labels. slot_comes name slot at at1 at2 a a1 a2 labels reply g h
 slot_comes_if name slot at at1 at2 a a1 a2 (result.Err s) g h = tt
 
-pub slot_stops_if : {V W : List Deed → Type 0} → (ds : List Deed) → ((rest : List Deed) → V rest → W (ds ++ rest)) → (at at1 at2 : At) (a a1 a2 : Agent) (r : Result Reply Stopped) → Goes ds at at1 a a1 → IfErr r (λ s. SticksAfter V s.stuck at1 at2 a1 a2) → IfErr r (λ s. SticksAfter W s.stuck at at2 a a2)
-slot_stops_if ds on at at1 at2 a a1 a2 (result.Ok reply) g h = tt
-slot_stops_if ds on at at1 at2 a a1 a2 (result.Err s) g h = sticks_later ds on at at1 at2 s.stuck a a1 a2 g h
+pub slot_stops_if : (V W : List Deed → Type 0) (ds : List Deed) → ((rest : List Deed) → V rest → W (ds ++ rest)) → (at at1 at2 : At) (a a1 a2 : Agent) (r : Result Reply Stopped) → Goes ds at at1 a a1 → IfErr r (λ s. SticksAfter V s.stuck at1 at2 a1 a2) → IfErr r (λ s. SticksAfter W s.stuck at at2 a a2)
+slot_stops_if V W ds on at at1 at2 a a1 a2 (result.Ok reply) g h = tt
+slot_stops_if V W ds on at at1 at2 a a1 a2 (result.Err s) g h = sticks_later ds on at at1 at2 s.stuck a a1 a2 g h

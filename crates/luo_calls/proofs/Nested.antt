@@ -162,8 +162,8 @@ holds_stuck at due halt (Some x) n a a1 o s h = record {
         clash e = absurd cc
     stays false is = ap (λ b. cond b (Some (known_of x.1)) (a.hands n)) is ∙ h.held
 
-pub can_let_go_stuck : {due : Option Turn} → (at : At) (stuck : Stuck) (n : ℕ) (a a1 : Agent) (o : Object) → Sticks at due stuck a a1 → Holds n a o → CanEnd a1 n o None (a1.hands n)
-can_let_go_stuck {due} at stuck n a a1 o s h = can_let_go n a1 o (holds_stuck at due stuck.halt stuck.held n a a1 o s h)
+pub can_let_go_stuck : (due : Option Turn) (at : At) (stuck : Stuck) (n : ℕ) (a a1 : Agent) (o : Object) → Sticks at due stuck a a1 → Holds n a o → CanEnd a1 n o None (a1.hands n)
+can_let_go_stuck due at stuck n a a1 o s h = can_let_go n a1 o (holds_stuck at due stuck.halt stuck.held n a a1 o s h)
 
 under_with : (at : At) (due : Option Turn) (halt : Halt) (held : Option (ObjectNo × Object)) (n : ℕ) (a a1 a2 : Agent) (o : Object) → SticksWith at due halt held a a1 → Holds n a o → IsButForRoom (gave_back n (history_of o) a1) a2 → SticksWith at due halt held (without n a) a2
 under_with at due halt None n a a1 a2 o s h gave = record {
@@ -191,8 +191,8 @@ under_with at due halt (Some x) n a a1 a2 o s h gave = record {
     free_of false is = ap (λ b. cond b None (a.hands x.0.0)) is ∙ s.free
 
 -- the object in hand goes back first
-pub sticks_under : {due : Option Turn} → (at : At) (stuck : Stuck) (n : ℕ) (a a1 a2 : Agent) (o : Object) → Sticks at due stuck a a1 → Holds n a o → HasEnded a1 n None (a1.hands n) a2 → Sticks at due stuck (without n a) a2
-sticks_under {due} at stuck n a a1 a2 o s h gave_it =
+pub sticks_under : (due : Option Turn) (at : At) (stuck : Stuck) (n : ℕ) (a a1 a2 : Agent) (o : Object) → Sticks at due stuck a a1 → Holds n a o → HasEnded a1 n None (a1.hands n) a2 → Sticks at due stuck (without n a) a2
+sticks_under due at stuck n a a1 a2 o s h gave_it =
     under_with at due stuck.halt stuck.held n a a1 a2 o s h (ended_none a1 n (known_of o) (a1.hands n) a2 (holds_stuck at due stuck.halt stuck.held n a a1 o s h).held gave_it).shows
 
 -- ---- a command that sticks
@@ -252,11 +252,11 @@ file_more s t number start history home = record {
 pub let_go_at : (m n : ℕ) (a a1 : Agent) (o : Object) → m ≡ n → a1 ≡ record a { room = a1.room } → Holds n a o → CanEnd a1 m o None (a1.hands m)
 let_go_at m n a a1 o is room h = subst (λ k. CanEnd a1 k o None (a1.hands k)) (sym is) (can_let_go n a1 o (holds_room n a a1 o room h))
 
-pub under_at : {due : Option Turn} → (at : At) (stuck : Stuck) (m n : ℕ) (a a1 a2 : Agent) (o : Object) → m ≡ n → Sticks at due stuck a a1 → Holds n a o → HasEnded a1 m None (a1.hands m) a2 → Sticks at due stuck (without n a) a2
-under_at at stuck m n a a1 a2 o is s h gave = sticks_under at stuck n a a1 a2 o s h (subst (λ k. HasEnded a1 k None (a1.hands k) a2) is gave)
+pub under_at : (due : Option Turn) (at : At) (stuck : Stuck) (m n : ℕ) (a a1 a2 : Agent) (o : Object) → m ≡ n → Sticks at due stuck a a1 → Holds n a o → HasEnded a1 m None (a1.hands m) a2 → Sticks at due stuck (without n a) a2
+under_at due at stuck m n a a1 a2 o is s h gave = sticks_under due at stuck n a a1 a2 o s h (subst (λ k. HasEnded a1 k None (a1.hands k) a2) is gave)
 
-pub let_go_stuck_at : {due : Option Turn} → (at : At) (stuck : Stuck) (m n : ℕ) (a a1 : Agent) (o : Object) → m ≡ n → Sticks at due stuck a a1 → Holds n a o → CanEnd a1 m o None (a1.hands m)
-let_go_stuck_at at stuck m n a a1 o is s h = subst (λ k. CanEnd a1 k o None (a1.hands k)) (sym is) (can_let_go_stuck at stuck n a a1 o s h)
+pub let_go_stuck_at : (due : Option Turn) (at : At) (stuck : Stuck) (m n : ℕ) (a a1 : Agent) (o : Object) → m ≡ n → Sticks at due stuck a a1 → Holds n a o → CanEnd a1 m o None (a1.hands m)
+let_go_stuck_at due at stuck m n a a1 o is s h = subst (λ k. CanEnd a1 k o None (a1.hands k)) (sym is) (can_let_go_stuck due at stuck n a a1 o s h)
 
 -- ---- deeds, seen but for an object that is in hand meanwhile
 

@@ -5,7 +5,7 @@ ghost use Rattle.ho_events.specs.Slips.{reply_runs};
 ghost use Rattle.ho_world.specs.Logs.{end_with};
 ghost use Rattle.ho_world.specs.Sequences.{command_acts};
 ghost use Rattle.ho_world.specs.Sequences.Files.{close_fd_acts};
-ghost use Rattle.phys_frames.specs.Memory.{AreOf, first_frames};
+ghost use Rattle.phys_frames.specs.Memory.{AreOf};
 ghost use Rattle.machine_core.specs.Agents.{Agent, no_hands};
 ghost use Rattle.machine_core.specs.Commands.{Comes, Halts};
 ghost use Rattle.machine_core.specs.Turns.{IsReady, Goes};
@@ -21,7 +21,7 @@ use crate::turns::file;
 use crate::turns::registry::free_file;
 use ho_base::limits::FILES;
 use ho_base::name::Name;
-use ho_base::numbers::{FileNo, Order};
+use ho_base::numbers::{FileNo, Order, Pfn};
 use ho_events::command::Command;
 use ho_events::reply::Reply;
 use ho_events::slip::At;
@@ -109,7 +109,7 @@ fn close_label<R: Reach>(
             });
         }
     };
-    match end_label(alloc, reach, at, file, order, &reply, &mut given) {
+    match end_label(alloc, reach, at, file, order, reply, &mut given) {
         Ok(()) => {
             given.destroy_empty();
             Ok(())
@@ -128,24 +128,24 @@ fn end_label<R: Reach>(
     at: &mut At,
     file: FileNo,
     order: Order,
-    reply: &Reply,
+    reply: Reply,
     given: &mut Vec<Folio>,
 ) -> Result<(), Stuck>
     requires ready { IsReady at.old (R.shown reach.old) }
     requires free { (R.shown reach.old).hands ≡ no_hands }
     requires file { file.0 < FILES }
     requires single { order.0 ≡ 0 }
-    requires reply { IsCloseFdReply reply.now }
-    requires few { length (reply_runs reply.now) ≤ 1 }
-    requires given { IsGivenUp (R.shown reach.old).anchor.home reply.now given.old.items }
-    ensures goes { OnOk result (Goes (deeds (after_close_fd file order reply.now) ++ end_with Reply.Ok ∷ []) at.old at.new (R.shown reach.old) (R.shown reach.new)) }
+    requires reply { IsCloseFdReply reply }
+    requires few { length (reply_runs reply) ≤ 1 }
+    requires given { IsGivenUp (R.shown reach.old).anchor.home reply given.old.items }
+    ensures goes { OnOk result (Goes (deeds (after_close_fd file order reply) ++ end_with Reply.Ok ∷ []) at.old at.new (R.shown reach.old) (R.shown reach.new)) }
     ensures given { OnOk result (given.new.items ≡ []) }
-    ensures sticks { IfErr result (λ stuck. SticksAfter (λ ds. ds ≡ deeds (after_close_fd file order reply.now) ++ end_with Reply.Ok ∷ []) stuck at.old at.new (R.shown reach.old) (R.shown reach.new)) }
+    ensures sticks { IfErr result (λ stuck. SticksAfter (λ ds. ds ≡ deeds (after_close_fd file order reply) ++ end_with Reply.Ok ∷ []) stuck at.old at.new (R.shown reach.old) (R.shown reach.new)) }
     ensures given_up { OnErr result (AreOf (R.shown reach.old).anchor.home given.new.items) }
 {
     match reply {
         Reply::Kept => end_command(reach, at, Reply::Ok),
-        Reply::Gone(_) => end_gone(alloc, reach, at, file, order, given),
+        Reply::Gone(runs) => end_gone(alloc, reach, at, file, order, runs.as_slice(), given),
         _ => unreachable!(),
     }
 }
@@ -157,17 +157,18 @@ fn end_gone<R: Reach>(
     at: &mut At,
     file: FileNo,
     order: Order,
+    runs: &[Pfn],
     given: &mut Vec<Folio>,
 ) -> Result<(), Stuck>
     requires ready { IsReady at.old (R.shown reach.old) }
     requires free { (R.shown reach.old).hands ≡ no_hands }
     requires file { file.0 < FILES }
     requires single { order.0 ≡ 0 }
-    requires few { length given.old.items ≤ 1 }
-    requires of_home { AreOf (R.shown reach.old).anchor.home given.old.items }
-    ensures goes { OnOk result (Goes (deeds (after_close_fd file order (Reply.Gone (first_frames given.old.items))) ++ end_with Reply.Ok ∷ []) at.old at.new (R.shown reach.old) (R.shown reach.new)) }
+    requires few { length runs.now ≤ 1 }
+    requires given { IsGivenUp (R.shown reach.old).anchor.home (Reply.Gone runs.now) given.old.items }
+    ensures goes { OnOk result (Goes (deeds (after_close_fd file order (Reply.Gone runs.now)) ++ end_with Reply.Ok ∷ []) at.old at.new (R.shown reach.old) (R.shown reach.new)) }
     ensures given { OnOk result (given.new.items ≡ []) }
-    ensures sticks { IfErr result (λ stuck. SticksAfter (λ ds. ds ≡ deeds (after_close_fd file order (Reply.Gone (first_frames given.old.items))) ++ end_with Reply.Ok ∷ []) stuck at.old at.new (R.shown reach.old) (R.shown reach.new)) }
+    ensures sticks { IfErr result (λ stuck. SticksAfter (λ ds. ds ≡ deeds (after_close_fd file order (Reply.Gone runs.now)) ++ end_with Reply.Ok ∷ []) stuck at.old at.new (R.shown reach.old) (R.shown reach.new)) }
     ensures given_up { OnErr result (AreOf (R.shown reach.old).anchor.home given.new.items) }
 {
     give_any(alloc, reach, at, order, given)?;

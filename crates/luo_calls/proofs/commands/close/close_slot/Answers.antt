@@ -19,7 +19,7 @@ returns-then-is_out-clause-closes g c =
 
 pub returns-then-is_out-clause-stopped : goal.returns-then-is_out-clause-stopped
 returns-then-is_out-clause-stopped g c =
-    outer_stops_if _ _ (session_no c.args.slot.0) _ (g.R.Reach.shown c.open_session.new.reach) _ _ c.close_out.result c.in-Ok.ensures.opens (ap (λ h. h (session_no c.args.slot.0)) c.requires.free) c.close_out.ensures.stopped
+    outer_stops_if _ _ _ (session_no c.args.slot.0) _ (g.R.Reach.shown c.open_session.new.reach) _ _ c.close_out.result c.in-Ok.ensures.opens (ap (λ h. h (session_no c.args.slot.0)) c.requires.free) c.close_out.ensures.stopped
 
 pub returns-in-Err-close_other-clause-stopped : goal.returns-in-Err-close_other-clause-stopped
 returns-in-Err-close_other-clause-stopped g c =

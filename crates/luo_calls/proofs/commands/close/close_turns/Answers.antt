@@ -28,7 +28,7 @@ returns-in-OkSlot-clause-comes g c =
 
 pub returns-in-OkSlot-clause-stopped : goal.returns-in-OkSlot-clause-stopped
 returns-in-OkSlot-clause-stopped g c =
-    slot_stops_if (slot_found c.args.name c.in-OkSlot.slot) (λ rest h. h) _ _ _ _ _ _ c.close_slot.result
+    slot_stops_if _ _ (slot_found c.args.name c.in-OkSlot.slot) (λ rest h. h) _ _ _ _ _ _ c.close_slot.result
     (same_reply _ _ (RegFindOut c.args.name) _ _ _ _ _ _ c.in-OkSlot.is c.in-Ok.ensures.goes) c.close_slot.ensures.stopped
 
 pub returns-in-Ok-end_command-clause-comes : goal.returns-in-Ok-end_command-clause-comes

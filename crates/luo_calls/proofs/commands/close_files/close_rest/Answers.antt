@@ -1,9 +1,9 @@
 use Rattle.luo_calls.specs.Closing.{after_unpin, deeds, unmarked}
 use Rattle.ho_events.specs.declared.reply.Reply.{Reply}
-use Rattle.std.proofs.Common.{ap, sym}
+use Rattle.std.proofs.Common.{◌≡◌, ap, sym}
 use Rattle.luo_calls.proofs.Closes.{stuck_at_once}
 use Rattle.luo_calls.proofs.commands.close_files.close_rest.Goals as goal
 
 pub returns-in-KeptRuns-clause-sticks : goal.returns-in-KeptRuns-clause-sticks
 returns-in-KeptRuns-clause-sticks g c =
-    stuck_at_once (deeds (unmarked c.args.order c.in-KeptRuns.runs)) (ap (λ (r : Reply). deeds (after_unpin c.args.file c.args.order r)) (sym c.in-KeptRuns.is)) _ _ _ _ c.unmark_any.result c.unmark_any.ensures.same_at c.unmark_any.ensures.sticks
+    stuck_at_once (λ ds. ds ≡ deeds (after_unpin c.args.file c.args.order c.args.reply)) (deeds (unmarked c.args.order c.in-KeptRuns.runs)) (ap (λ (r : Reply). deeds (after_unpin c.args.file c.args.order r)) (sym c.in-KeptRuns.is)) _ _ _ _ c.unmark_any.result c.unmark_any.ensures.same_at c.unmark_any.ensures.sticks

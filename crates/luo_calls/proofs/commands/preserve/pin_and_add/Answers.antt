@@ -21,7 +21,7 @@ returns-in-Err-clause-sticks g c =
     let a = g.R.Reach.shown c.args.reach.now in let n = session_no c.args.slot.0 in
     nested.sticks_first (deed_at (file_no c.args.file.0) [] (FilePin []) NotFinished ∷ (added c.args.slot c.args.name c.args.token c.args.file NotFinished ++ end_with NotFinished ∷ [])) (lost_whole c.args.name c.args.token c.args.file c.args.slot NotFinished refl) c.args.at.now _ _ (without n a) _ c.in-Err.ensures.same_at
     (subst (λ (s : Stuck). Sticks c.args.at.now (turn (file_no c.args.file.0) (FilePin [])) s (without n a) (g.R.Reach.shown c.under.new.reach)) (sym c.under.ensures.stuck)
-    (nested.under_at c.args.at.now _ _ n a _ _ _ c.of_session-number.ensures c.in-Err.ensures.sticks c.requires.holds c.under.ensures.ended))
+    (nested.under_at _ c.args.at.now _ _ n a _ _ _ c.of_session-number.ensures c.in-Err.ensures.sticks c.requires.holds c.under.ensures.ended))
 
 pub mark_and_add-requires-clause-ready : goal.mark_and_add-requires-clause-ready
 mark_and_add-requires-clause-ready g c = ready_after _ _ _ _ _ c.requires.ready c.in-Ok.ensures.goes

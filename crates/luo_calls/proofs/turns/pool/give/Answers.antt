@@ -1,7 +1,9 @@
 use Rattle.luo_calls.proofs.Sticking.{sticks_any}
 use Rattle.std.proofs.lemmas.Result.{err_from_is_err_and}
-use Rattle.std.proofs.Common.{refl, [], subst, sym}
-use Rattle.phys_frames.specs.Memory.{AreOf, first_frames}
+use Rattle.std.proofs.Common.{List, refl, [], subst, sym}
+use Rattle.ho_base.specs.Objects.{pool_no}
+use Rattle.phys_frames.specs.Memory.{AreOf, FolioValue, first_frames}
+use Rattle.luo_calls.specs.Stuck.{Sticks, turn}
 use Rattle.ho_events.specs.declared.event.Event.TheVariants.{PoolGive}
 use Rattle.luo_calls.proofs.Cannot.{pool_cannot}
 use Rattle.luo_calls.proofs.KindTurns as kinds
@@ -11,9 +13,11 @@ use Rattle.luo_calls.proofs.turns.pool.give.Goals as goal
 
 pub returns-then-not-can_give-clause-sticks : goal.returns-then-not-can_give-clause-sticks
 returns-then-not-can_give-clause-sticks g c =
-    broken_pool_sticks _ _ _ c.in_ok-slip.pool _ c.requires.free c.in_ok-slip.ensures.opens (PoolGive c.args.order (first_frames c.as_slice.result.now))
+    subst (λ (folios : List FolioValue). Sticks c.args.at.now (turn pool_no (PoolGive c.args.order (first_frames folios))) c.broken_pool.result (g.R.Reach.shown c.args.reach.now) (g.R.Reach.shown c.open_pool.new.reach))
+    c.as_slice.ensures.value
+    (broken_pool_sticks _ _ _ c.in_ok-slip.pool _ c.requires.free c.in_ok-slip.ensures.opens (PoolGive c.args.order (first_frames c.as_slice.result.now))
     (pool_cannot c.in_ok-slip.pool (PoolGive c.args.order (first_frames c.as_slice.result.now)) (cannot_give _ c.args.order (first_frames c.as_slice.result.now) _ c.if-not-can_give.true c.can_give.ensures.exact) c.args.at.now _)
-    c.broken_pool.ensures.halt c.broken_pool.ensures.held
+    c.broken_pool.ensures.halt c.broken_pool.ensures.held)
 
 pub end-requires : goal.end-requires
 end-requires g c =

@@ -17,7 +17,7 @@ under-requires g c =
 pub returns-in-Err-clause-sticks : goal.returns-in-Err-clause-sticks
 returns-in-Err-clause-sticks g c =
     sticks_any _ _ _ _ _ (subst (λ (s : Stuck). Sticks c.args.at.now None s (without (session_no c.args.slot.0) (g.R.Reach.shown c.args.reach.now)) (g.R.Reach.shown c.under.new.reach)) (sym c.under.ensures.stuck)
-    (nested.under_at c.args.at.now _ _ (session_no c.args.slot.0) _ _ _ _ c.of_session-number.ensures c.in-Err.ensures.sticks c.requires.holds c.under.ensures.ended))
+    (nested.under_at _ c.args.at.now _ _ (session_no c.args.slot.0) _ _ _ _ c.of_session-number.ensures c.in-Err.ensures.sticks c.requires.holds c.under.ensures.ended))
 
 pub returns-in-Err-reserve-clause-sticks : goal.returns-in-Err-reserve-clause-sticks
 returns-in-Err-reserve-clause-sticks g c =

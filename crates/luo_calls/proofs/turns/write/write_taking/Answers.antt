@@ -36,7 +36,7 @@ returns-in-Err-clause-stopped g c =
     let a = g.R.Reach.shown c.args.reach.now in let n = file_no c.args.file.0 in
     nested.sticks_first (deed_at pool_no (IsFile c.args.file Memfd c.args.order ∷ []) (PoolTake c.args.order c.args.holes) NoFrames ∷ deed_at (file_no c.args.file.0) (IsFile c.args.file Memfd c.args.order ∷ []) (FileWrite c.args.off c.args.bytes.now []) (NoFramesOf c.args.holes) ∷ end_with NoFrames ∷ []) (starved_whole c.args.file c.args.off c.args.bytes.now c.args.order c.args.holes (holes_fit _ c.args.order c.args.off (length c.args.bytes.now) c.args.holes c.requires.within c.requires.memfd c.requires.touched)) c.args.at.now _ _ (without n a) _ c.in-Err.ensures.same_at
     (subst (λ (s : Stuck). Sticks c.args.at.now (turn pool_no (PoolTake c.args.order c.args.holes)) s (without n a) (g.R.Reach.shown c.under-stuck.new.reach)) (sym c.under-stuck.ensures.stuck)
-    (nested.under_at c.args.at.now _ _ n a _ _ _ c.of_file-number.ensures c.in-Err.ensures.sticks c.requires.holds c.under-stuck.ensures.ended))
+    (nested.under_at _ c.args.at.now _ _ n a _ _ _ c.of_file-number.ensures c.in-Err.ensures.sticks c.requires.holds c.under-stuck.ensures.ended))
 
 pub write_starved-requires-clause-ready : goal.write_starved-requires-clause-ready
 write_starved-requires-clause-ready g c =
