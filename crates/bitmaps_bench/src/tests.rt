@@ -52,6 +52,7 @@ fn two_marks(rt: HostRuntime) {
     tracker.mark(Pfn(9), Order(0));
     tracker.mark(Pfn(16), Order(2));
     let mut frames = Frames::zeroed(alloc, 64).expect(&rt, "memory");
+    assert!(rt; frames.all_home());
     write(&rt, alloc, &mut frames, &tracker, [].as_slice());
     assert!(rt; frames.all_home());
     for i in 0..2u32 {

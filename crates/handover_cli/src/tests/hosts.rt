@@ -73,9 +73,15 @@ fn writes_whole_sinks(rt: HostRuntime) -> Result<(), Fail> {
     assert!(rt; write_all(&mut sink, b"one").is_ok());
     assert!(rt; write_all(&mut sink, b"two").is_err());
     assert!(rt; write_all(&mut sink, b"three").is_ok());
-    let (name, bytes) = sink.into_parts();
-    assert_eq!(rt; name.as_str(), "s");
-    assert_eq!(rt; bytes.as_slice(), b"onethree".as_slice());
+    // A host tells what a sink has that is given back to it, also in another one's place.
+    let mut host = MemHost::new(Vec::new(alloc), Vec::new(alloc));
+    let _other = host.make("other").ok().ok_or("made")?;
+    host.shut_dst(sink);
+    for (name, bytes) in host.made() {
+        assert_eq!(rt; name.as_str(), "s");
+        assert_eq!(rt; bytes.as_slice(), b"onethree".as_slice());
+    }
+    assert_eq!(rt; host.made().len(), 1);
     Ok(())
 }
 
