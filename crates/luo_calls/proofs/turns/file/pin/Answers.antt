@@ -2,7 +2,7 @@ use Rattle.luo_calls.proofs.Sticking.{sticks_any}
 use Rattle.std.proofs.lemmas.Result.{err_from_is_err_and}
 use Rattle.std.proofs.Common.{refl, [], ◌∷◌, inl, inr, sym, subst, ap}
 use Rattle.ho_base.specs.declared.numbers.Kind.TheVariants.{Memfd}
-use Rattle.ho_events.specs.declared.event.Event.TheVariants.{FileUnpin}
+use Rattle.ho_events.specs.declared.event.Event.TheVariants.{FilePin}
 use Rattle.ho_world.specs.Acts.{IsFile}
 use Rattle.luo_calls.proofs.Cannot.{file_cannot}
 use Rattle.luo_calls.proofs.FileHalts.{broken_file_sticks, cannot_unpin, is_shut, is_other, file_claimed}

@@ -1,6 +1,7 @@
 use Rattle.luo_calls.proofs.Sticking.{sticks_any}
 use Rattle.std.proofs.lemmas.Result.{err_from_is_err_and}
 use Rattle.std.proofs.Common.{refl, [], inl, inr}
+use Rattle.ho_events.specs.declared.event.Event.TheVariants.{FileRead}
 use Rattle.luo_calls.proofs.FileHalts.{broken_file_sticks, is_shut}
 use Rattle.luo_calls.proofs.KindTurns as kinds
 use Rattle.luo_calls.proofs.turns.read.read_file.Goals as goal

@@ -1,6 +1,6 @@
 use Rattle.luo_calls.proofs.Sticking.{sticks_any, sticks_number}
 use Rattle.std.proofs.lemmas.Result.{err_from_is_err_and}
-use Rattle.std.proofs.Common.{refl, [], inl}
+use Rattle.std.proofs.Common.{refl, [], inl, sym}
 use Rattle.ho_base.specs.Objects.{session_no}
 use Rattle.ho_events.specs.declared.event.Event.TheVariants.{SessionBegin}
 use Rattle.luo_calls.proofs.Cannot.{session_cannot}

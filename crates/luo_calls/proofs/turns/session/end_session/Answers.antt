@@ -1,4 +1,5 @@
 use Rattle.luo_calls.proofs.Sticking.{sticks_any}
+use Rattle.std.specs.Prelude.{None}
 use Rattle.std.proofs.Common.{refl, [], sym, ap, subst}
 use Rattle.ho_base.specs.Objects.{session_no}
 use Rattle.ho_world.specs.Logs.{AreClaimed}

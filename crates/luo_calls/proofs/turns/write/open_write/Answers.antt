@@ -1,6 +1,7 @@
 use Rattle.luo_calls.proofs.Sticking.{sticks_any}
 use Rattle.std.proofs.lemmas.Result.{err_from_is_err_and}
-use Rattle.std.proofs.Common.{inl, inr}
+use Rattle.std.proofs.Common.{refl, [], inl, inr}
+use Rattle.ho_events.specs.declared.event.Event.TheVariants.{FileWrite}
 use Rattle.luo_calls.proofs.FileHalts.{broken_file_sticks, is_shut, is_other}
 use Rattle.luo_calls.proofs.turns.write.open_write.Goals as goal
 

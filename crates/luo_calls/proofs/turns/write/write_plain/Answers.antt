@@ -1,8 +1,11 @@
 use Rattle.luo_calls.proofs.Sticking.{sticks_any}
 use Rattle.std.specs.Prelude.{None}
-use Rattle.std.proofs.Common.{refl, []}
+use Rattle.std.proofs.Common.{refl, [], sym, subst}
 use Rattle.ho_base.specs.Objects.{file_no}
-use Rattle.luo_calls.proofs.Nested.{goes_from_room}
+use Rattle.luo_calls.specs.declared.stuck.Stuck.{Stuck}
+use Rattle.luo_calls.specs.Opened.{without}
+use Rattle.luo_calls.specs.Stuck.{Sticks}
+use Rattle.luo_calls.proofs.Nested.{goes_from_room, under_at}
 use Rattle.luo_calls.proofs.WriteTurns.{same_write, no_fills, plain_reply}
 use Rattle.luo_calls.proofs.turns.write.write_plain.Goals as goal
 

@@ -1,12 +1,15 @@
 use Rattle.luo_calls.proofs.Sticking.{sticks_any}
 use Rattle.std.specs.Prelude.{None}
-use Rattle.std.proofs.Common.{refl, [], ◌∷◌, ap, sym, ◌∙◌}
+use Rattle.std.proofs.Common.{refl, [], ◌∷◌, ap, sym, subst, ◌∙◌}
 use Rattle.ho_base.specs.Objects.{file_no}
 use Rattle.ho_base.specs.declared.numbers.Kind.TheVariants.{Memfd}
 use Rattle.ho_world.specs.Acts.{IsFile}
 use Rattle.machine_core.specs.Agents.{Agent}
 use Rattle.luo_calls.proofs.FileHalts.{memfd_claimed}
-use Rattle.luo_calls.proofs.Nested.{goes_from_room}
+use Rattle.luo_calls.specs.declared.stuck.Stuck.{Stuck}
+use Rattle.luo_calls.specs.Opened.{without}
+use Rattle.luo_calls.specs.Stuck.{Sticks}
+use Rattle.luo_calls.proofs.Nested.{goes_from_room, under_at}
 use Rattle.luo_calls.proofs.WriteTurns.{same_write, no_fills, starved_reply, is_present}
 use Rattle.luo_calls.proofs.turns.write.write_starved.Goals as goal
 
