@@ -4,13 +4,9 @@ ghost use Rattle.std.specs.Prelude.{◌≡◌, ◌∷◌, [], IfOk, codes, map, 
 
 mod drip;
 mod files;
-mod history_text;
-mod hosts;
 mod kernels;
 mod pools;
 mod rows;
-mod scripts;
-mod values;
 
 use crate::run::{Status, run};
 use crate::tests::drip::{DROP_BYTES, Drip};

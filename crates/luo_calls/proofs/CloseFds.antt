@@ -1,5 +1,5 @@
 -- The sequences of `closefd`.
-use Rattle.std.proofs.Common.{◌≡◌, List, [], ◌∷◌, ◌++◌, refl, sym, ap, subst, ◌∙◌, append_assoc}
+use Rattle.std.proofs.Common.{◌≡◌, ℕ, List, [], ◌∷◌, ◌++◌, refl, sym, ap, subst, ◌∙◌, append_assoc}
 use Rattle.std.specs.Prelude.{None, Some}
 use Rattle.std.specs.FinMap as finmap
 use Rattle.std.proofs.lemmas.List.{map-append}

@@ -127,9 +127,9 @@ pub outer_comes : (s : SlotNo) (name : List ℕ) (t : Token) (f : FileNo) (n : �
 outer_comes s name t f n at at1 a a1 a2 o (result.Ok p) opens free h = outer_goes _ at at1 n a a1 a2 o opens free h
 outer_comes s name t f n at at1 a a1 a2 o (result.Err stuck) opens free h = tt
 
-pub outer_stops : {W : List Deed → Type 0} → (n : ℕ) (at at1 : At) (a a1 a2 : Agent) (o : Object) (r : Result Preserved Stuck) → Opens at n a a1 o → a.hands n ≡ None → IfErr r (λ stuck. SticksAfter W stuck at at1 (without n a1) a2) → IfErr r (λ stuck. SticksAfter W stuck at at1 a a2)
-outer_stops n at at1 a a1 a2 o (result.Ok p) opens free h = tt
-outer_stops n at at1 a a1 a2 o (result.Err stuck) opens free h = outer_sticks at at1 stuck n a a1 a2 o opens free h
+pub outer_stops : (W : List Deed → Type 0) (n : ℕ) (at at1 : At) (a a1 a2 : Agent) (o : Object) (r : Result Preserved Stuck) → Opens at n a a1 o → a.hands n ≡ None → IfErr r (λ stuck. SticksAfter W stuck at at1 (without n a1) a2) → IfErr r (λ stuck. SticksAfter W stuck at at1 a a2)
+outer_stops W n at at1 a a1 a2 o (result.Ok p) opens free h = tt
+outer_stops W n at at1 a a1 a2 o (result.Err stuck) opens free h = outer_sticks at at1 stuck n a a1 a2 o opens free h
 
 -- ---- sequences
 
@@ -309,6 +309,6 @@ module _ (labels : Labels) (name : List ℕ) (token : Token) (label : List ℕ) 
       came_told p x (result.Err stuck) is fits h told k = tt
 
 -- the command can't be ended
-pub told_sticks : {W : List Deed → Type 0} → (ds due : List Deed) → W (ds ++ due) → (at at1 at2 : At) (a a1 a2 : Agent) (r : Result Reply Stuck) → Goes ds at at1 a a1 → OnErr r (at2 ≡ at1) → IfErr r (λ stuck. Sticks at1 (turn_of due) stuck a1 a2) → IfErr r (λ stuck. SticksAfter W stuck at at2 a a2)
-told_sticks ds due front at at1 at2 a a1 a2 (result.Ok x) h same s = tt
-told_sticks ds due front at at1 at2 a a1 a2 (result.Err stuck) h same s = sticks_next ds due front at at1 at2 stuck a a1 a2 h same s
+pub told_sticks : (W : List Deed → Type 0) (ds due : List Deed) → W (ds ++ due) → (at at1 at2 : At) (a a1 a2 : Agent) (r : Result Reply Stuck) → Goes ds at at1 a a1 → OnErr r (at2 ≡ at1) → IfErr r (λ stuck. Sticks at1 (turn_of due) stuck a1 a2) → IfErr r (λ stuck. SticksAfter W stuck at at2 a a2)
+told_sticks W ds due front at at1 at2 a a1 a2 (result.Ok x) h same s = tt
+told_sticks W ds due front at at1 at2 a a1 a2 (result.Err stuck) h same s = sticks_next ds due front at at1 at2 stuck a a1 a2 h same s

@@ -145,9 +145,9 @@ filled_comes file o off holes bytes runs at at1 at2 b b1 b2 (result.Ok w) count 
 filled_comes file o off holes bytes runs at at1 at2 b b1 b2 (result.Err s) count h is k = tt
 
 -- a write whose runs were taken can't be ended
-pub filled_stops : {W : List Deed → Type 0} → (ds due : List Deed) → W (ds ++ due) → (at at1 at2 : At) (b b1 b2 : Agent) (r : Result Wrote Stopped) → Goes ds at at1 b b1 → OnErr r (at2 ≡ at1) → IfErr r (λ s. Sticks at1 (turn_of due) s.stuck b1 b2) → IfErr r (λ s. SticksAfter W s.stuck at at2 b b2)
-filled_stops ds due front at at1 at2 b b1 b2 (result.Ok w) h same s = tt
-filled_stops ds due front at at1 at2 b b1 b2 (result.Err x) h same s = sticks_next ds due front at at1 at2 x.stuck b b1 b2 h same s
+pub filled_stops : (W : List Deed → Type 0) (ds due : List Deed) → W (ds ++ due) → (at at1 at2 : At) (b b1 b2 : Agent) (r : Result Wrote Stopped) → Goes ds at at1 b b1 → OnErr r (at2 ≡ at1) → IfErr r (λ s. Sticks at1 (turn_of due) s.stuck b1 b2) → IfErr r (λ s. SticksAfter W s.stuck at at2 b b2)
+filled_stops W ds due front at at1 at2 b b1 b2 (result.Ok w) h same s = tt
+filled_stops W ds due front at at1 at2 b b1 b2 (result.Err x) h same s = sticks_next ds due front at at1 at2 x.stuck b b1 b2 h same s
 
 pub given_home : (h k : HomeId) (r : Result Wrote Stopped) → k ≡ h → IfErr r (λ s. AreOf k s.folios.items) → IfErr r (λ s. AreOf h s.folios.items)
 given_home h k (result.Ok w) e g = tt
@@ -159,9 +159,9 @@ pub outer_comes : (file : FileNo) (off : ℕ) (bytes : List ℕ) (at at1 : At) (
 outer_comes file off bytes at at1 a a1 a2 o (result.Ok w) opens free h = outer_goes _ at at1 (file_no file.0) a a1 a2 o opens free h
 outer_comes file off bytes at at1 a a1 a2 o (result.Err s) opens free h = tt
 
-pub outer_stops : {W : List Deed → Type 0} → (n : ℕ) (at at1 : At) (a a1 a2 : Agent) (o : Object) (r : Result Wrote Stopped) → Opens at n a a1 o → a.hands n ≡ None → IfErr r (λ s. SticksAfter W s.stuck at at1 (without n a1) a2) → IfErr r (λ s. SticksAfter W s.stuck at at1 a a2)
-outer_stops n at at1 a a1 a2 o (result.Ok w) opens free h = tt
-outer_stops n at at1 a a1 a2 o (result.Err s) opens free h = outer_sticks at at1 s.stuck n a a1 a2 o opens free h
+pub outer_stops : (W : List Deed → Type 0) (n : ℕ) (at at1 : At) (a a1 a2 : Agent) (o : Object) (r : Result Wrote Stopped) → Opens at n a a1 o → a.hands n ≡ None → IfErr r (λ s. SticksAfter W s.stuck at at1 (without n a1) a2) → IfErr r (λ s. SticksAfter W s.stuck at at1 a a2)
+outer_stops W n at at1 a a1 a2 o (result.Ok w) opens free h = tt
+outer_stops W n at at1 a a1 a2 o (result.Err s) opens free h = outer_sticks at at1 s.stuck n a a1 a2 o opens free h
 
 -- ---- how many holes a range may touch
 

@@ -1,6 +1,7 @@
 use Rattle.luo_calls.proofs.Sticking.{sticks_more}
 use Rattle.luo_calls.specs.Preserved.{added, marked}
-use Rattle.std.proofs.Common.{◌++◌, refl, sym, subst}
+use Rattle.ho_base.specs.declared.numbers.Pfn.{Pfn}
+use Rattle.std.proofs.Common.{List, ◌++◌, refl, sym, subst}
 use Rattle.std.proofs.lemmas.Result.{err_from_is_err_and}
 use Rattle.std.specs.Prelude.{None}
 use Rattle.ho_base.specs.Objects.{session_no}
@@ -19,7 +20,8 @@ returns-in-Err-clause-sticks g c =
     nested.sticks_first (marked c.args.order c.args.runs.now ++ added c.args.slot c.args.name c.args.token c.args.file Ok) refl c.args.at.now _ _ (without n a) _ c.in-Err.ensures.same_at
     (sticks_more _ (marked c.args.order c.args.runs.now) (added c.args.slot c.args.name c.args.token c.args.file Ok) _ _ _
     (subst (λ (s : Stuck). Sticks c.args.at.now (turn_of (marked c.args.order c.args.runs.now)) s (without n a) (g.R.Reach.shown c.under.new.reach)) (sym c.under.ensures.stuck)
-    (nested.under_at _ c.args.at.now _ _ n a _ _ _ c.of_session-number.ensures c.in-Err.ensures.sticks c.requires.holds c.under.ensures.ended)))
+    (subst (λ (runs : List Pfn). Sticks c.args.at.now (turn_of (marked c.args.order runs)) c.in-Err.stuck (without n a) (g.R.Reach.shown c.under.new.reach)) c.as_slice.ensures
+    (nested.under_at _ c.args.at.now _ _ n a _ _ _ c.of_session-number.ensures c.in-Err.ensures.sticks c.requires.holds c.under.ensures.ended))))
 
 pub add-requires-clause-ready : goal.add-requires-clause-ready
 add-requires-clause-ready g c = ready_after _ _ _ _ _ c.requires.ready c.in_default.ensures.goes

@@ -43,6 +43,6 @@ returns-clause-sticks g c =
     let n = session_no c.args.slot.0 in let a1 = g.R.Reach.shown c.open_session.new.reach in let free = ap (λ f. f (session_no c.args.slot.0)) c.requires.free in
     elim c.match-admits.branch [
       | in-None w ↦ rw (w.reach-is, w.at-is, w.result-is)
-          (outer_stops n _ _ _ a1 _ _ w.pin_and_add.result c.in_ok-held.ensures.opens free w.pin_and_add.ensures.sticks)
+          (outer_stops _ n _ _ _ a1 _ _ w.pin_and_add.result c.in_ok-held.ensures.opens free w.pin_and_add.ensures.sticks)
       | in-Some+in_ok-reply-in-Some w ↦ rw w.result-is tt
     ]

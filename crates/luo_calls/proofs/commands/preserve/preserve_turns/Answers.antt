@@ -46,7 +46,7 @@ returns-in_ok-preserved-in-OkSlot-clause-comes g c =
 
 pub returns-in_ok-preserved-in-OkSlot-clause-sticks : goal.returns-in_ok-preserved-in-OkSlot-clause-sticks
 returns-in_ok-preserved-in-OkSlot-clause-sticks g c =
-    preserves.told_sticks (slot_found c.args.name c.in-OkSlot.slot ++ preserve_deeds c.in-OkSlot.slot c.args.name c.args.token c.in-Some.file c.in_ok-preserved-in-OkSlot.preserved) (end_with (reply_to c.in_ok-preserved-in-OkSlot.preserved) ∷ [])
+    preserves.told_sticks _ (slot_found c.args.name c.in-OkSlot.slot ++ preserve_deeds c.in-OkSlot.slot c.args.name c.args.token c.in-Some.file c.in_ok-preserved-in-OkSlot.preserved) (end_with (reply_to c.in_ok-preserved-in-OkSlot.preserved) ∷ [])
     (preserves.of_file c.args.labels.now.bound c.args.name c.args.token c.args.label c.in-Some.file (sym c.file.ensures.found ∙ c.in-Some.is) _ (preserves.came_whole c.args.name c.args.token c.in-Some.file c.in-OkSlot.slot c.in_ok-preserved-in-OkSlot.preserved c.in_ok-preserved-in-OkSlot.ensures.told))
     _ _ _ _ _ _ c.end_told.result (then_goes _ _ _ _ _ _ _ _ (preserves.replied _ _ _ _ _ _ _ _ _ c.in-OkSlot.is c.in_ok-slot.ensures.goes) c.in_ok-preserved-in-OkSlot.ensures.goes) c.end_told.ensures.same_at c.end_told.ensures.sticks
 

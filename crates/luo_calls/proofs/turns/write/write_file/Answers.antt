@@ -28,7 +28,7 @@ returns-else-is_frozen-clause-goes g c =
 
 pub returns-else-is_frozen-clause-stopped : goal.returns-else-is_frozen-clause-stopped
 returns-else-is_frozen-clause-stopped g c =
-    outer_stops (file_no c.args.file.0) _ _ _ (g.R.Reach.shown c.open_write.new.reach) _ _ c.write_taking.result c.in-Ok.ensures.opens (ap (λ f. f (file_no c.args.file.0)) c.requires.free) c.write_taking.ensures.stopped
+    outer_stops _ (file_no c.args.file.0) _ _ _ (g.R.Reach.shown c.open_write.new.reach) _ _ c.write_taking.result c.in-Ok.ensures.opens (ap (λ f. f (file_no c.args.file.0)) c.requires.free) c.write_taking.ensures.stopped
 
 pub returns-else-is_frozen-clause-told : goal.returns-else-is_frozen-clause-told
 returns-else-is_frozen-clause-told g c =

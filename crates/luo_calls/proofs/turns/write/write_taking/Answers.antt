@@ -93,7 +93,7 @@ returns-in-Some-clause-stopped g c =
     let a = g.R.Reach.shown c.args.reach.now in let n = file_no c.args.file.0 in
     let goes = some_taken c.args.order c.args.holes c.args.at.now _ a (g.R.Reach.shown c.take_runs.new.reach) c.in-Ok-take_runs.got c.in-Some.runs c.in-Some.is c.in-Ok-take_runs.ensures.got (IsFile c.args.file Memfd c.args.order ∷ []) (memfd_claimed a a.hands c.args.file c.args.object c.args.order c.requires.holds.held c.requires.memfd) in
     let count = some_of (λ (r : Snapshot (Items Pfn)). length r.value ≡ c.args.holes) _ c.in-Ok-take_runs.got c.in-Some.runs c.in-Some.is c.in-Ok-take_runs.ensures.count in
-    filled_stops (deed_at pool_no (IsFile c.args.file Memfd c.args.order ∷ []) (PoolTake c.args.order (length c.in-Some.runs.value)) (Got c.in-Some.runs.value) ∷ [])
+    filled_stops _ (deed_at pool_no (IsFile c.args.file Memfd c.args.order ∷ []) (PoolTake c.args.order (length c.in-Some.runs.value)) (Got c.in-Some.runs.value) ∷ [])
     (deed_at (file_no c.args.file.0) (IsFile c.args.file Memfd c.args.order ∷ []) (FileWrite c.args.off c.args.bytes.now c.in-Some.runs.value) Ok ∷ end_with Ok ∷ [])
     (filled_whole c.args.file c.args.off c.args.bytes.now c.args.order c.in-Some.runs (subst (λ h. IsTrue (fits_range c.args.order c.args.off (length c.args.bytes.now) h)) (sym count) (holes_fit _ c.args.order c.args.off (length c.args.bytes.now) c.args.holes c.requires.within c.requires.memfd c.requires.touched)))
     _ _ _ (without n a) (without n (g.R.Reach.shown c.take_runs.new.reach)) _ c.write_filled.result
