@@ -37,7 +37,7 @@ returns-in_err-wrote-clause-stopped g c =
 
 pub returns-clause-stopped : goal.returns-clause-stopped
 returns-clause-stopped g c =
-    subst (λ (s : Stuck). SticksAfter (AreWhole (command_acts c.args.labels.now.bound (command.Write c.args.label c.args.off c.args.bytes.now))) s c.args.at.now c.end_command-in_ok-wrote.new.at (g.R.Reach.shown c.args.reach.now) (g.R.Reach.shown c.end_command-in_ok-wrote.new.reach)) (sym c.empty_handed-in-Err-end_command.ensures.stuck)
+    subst (λ (s : Stuck). SticksAfter (AreWhole (command_acts c.args.labels.now.bound (command.Write c.args.label c.args.off c.args.bytes.now))) s c.args.at.now c.end_command-2.new.at (g.R.Reach.shown c.args.reach.now) (g.R.Reach.shown c.end_command-2.new.reach)) (sym c.empty_handed-in-Err-end_command.ensures.stuck)
     (nested.sticks_next (write_deeds c.in-Some.file c.args.off c.args.bytes.now c.in_ok-wrote.wrote) (end_with (answer_of c.in_ok-wrote.wrote) ∷ [])
     (writes.of_file c.args.labels.now.bound c.args.label c.args.off c.args.bytes.now c.in-Some.file c.in-Some.ensures.found _ (writes.wrote_whole c.in-Some.file c.args.off c.args.bytes.now c.in_ok-wrote.wrote c.in_ok-wrote.ensures.told))
     _ _ _ _ _ _ _ c.in_ok-wrote.ensures.goes c.in-Err-end_command.ensures.same_at c.in-Err-end_command.ensures.sticks)
