@@ -1,0 +1,11 @@
+pub mod TreeAgain
+pub mod BlobMore
+pub mod Occurs
+pub mod FileRules
+pub mod SessionRules
+pub mod Apart
+pub mod OwnedWell
+pub mod SameState
+pub mod InOrder
+pub mod MarkedSet
+pub mod WrittenState

@@ -1,0 +1,6 @@
+pub mod Tree
+pub mod Entry
+pub mod Sessions
+pub mod Owners
+pub mod Carrying
+pub mod Marks
