@@ -75,7 +75,9 @@ fn writes_whole_sinks(rt: HostRuntime) -> Result<(), Fail> {
     assert!(rt; write_all(&mut sink, b"three").is_ok());
     // A host tells what a sink has that is given back to it, also in another one's place.
     let mut host = MemHost::new(Vec::new(alloc), Vec::new(alloc));
-    let _other = host.make("other").ok().ok_or("made")?;
+    let Ok(_other) = host.make("other") else {
+        panic!(rt; "made")
+    };
     host.shut_dst(sink);
     for (name, bytes) in host.made() {
         assert_eq!(rt; name.as_str(), "s");

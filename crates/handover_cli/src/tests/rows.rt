@@ -109,14 +109,15 @@ const LABEL_CLOSED: &[u8] = b"0 1 1 1 reg new_file = Ok f0\n\
 
 // Whether a script, run in memory, has exactly this output. Where it has, the definitions say of this text that it is the
 // text of a legal history of the script.
-#[tactic(auto, using(crate::proofs::Shown::shown))]
 fn has_history(alloc: Global, script: &[u8], history: &[u8]) -> Result<bool, AllocError>
     ensures { IfOk result (λ has. IsTrue has → IsHistoryOf script.now history.now) }
 {
     let words = run_words(alloc)?;
     let mut host = host_of(alloc, script, [].as_slice())?;
-    let status = run(alloc, words.as_slice(), &mut host);
-    Ok(status == Status::Done && host.out() == history)
+    match run(alloc, words.as_slice(), &mut host) {
+        Status::Done => Ok(host.out() == history),
+        _ => Ok(false),
+    }
 }
 
 #[test]
