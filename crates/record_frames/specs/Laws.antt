@@ -1,5 +1,5 @@
 -- What the definitions of records promise together.
-use Rattle.std.specs.Prelude.{◌≡◌, ℕ, ◌≤◌, List, [], length, IsTrue, Ok, ◌⊎◌, ◌<◌, get_or}
+use Rattle.std.specs.Prelude.{◌≡◌, ℕ, ◌^◌, ◌≤◌, List, [], length, IsTrue, Ok, ◌⊎◌, ◌<◌, get_or}
 use Rattle.ho_base.specs.declared.limits.TheConstants.{MAX_FRAMES, PAGE_BYTES}
 use Rattle.fdt_blob.specs.declared.tree.FdtPlace.{FdtPlace}
 use Rattle.fdt_blob.specs.Trees.{Tree}
@@ -7,10 +7,12 @@ use Rattle.fdt_blob.specs.Blob.{Spells, BreaksAt}
 use Rattle.record_frames.specs.declared.place.ImagePlace.{ImagePlace}
 use Rattle.ho_world.specs.Frozen.{Frozen}
 use Rattle.record_frames.specs.Ram.{Ram, is_frame}
+use Rattle.folio_bitmaps.specs.Chunks.{Element}
+use Rattle.record_frames.specs.Sheets.{Sheet}
 use Rattle.record_frames.specs.Kept.{Kept}
-use Rattle.record_frames.specs.Carries.{Carries, Keep}
+use Rattle.record_frames.specs.Carries.{Carries, Keep, SpellChain}
 use Rattle.record_frames.specs.Rules.{version_1, is_session_sheet}
-use Rattle.record_frames.specs.Reading.{kept_at, chain_at, session_layout, BreakAt}
+use Rattle.record_frames.specs.Reading.{kept_at, chain_at, chunks_at, session_layout, BreakAt}
 use Rattle.record_frames.specs.Fronts.{session_front_at, one_sheet}
 
 -- what fdt_blob promises: bytes spell one tree at most, and bytes that break a rule spell none and break one first
@@ -60,3 +62,11 @@ StateOrPlace =
 abbrev pub OneSessionFrame : Type 0
 OneSessionFrame =
     (ram : Ram) (at : ℕ) → chain_at ram session_layout (is_session_sheet version_1) [] at ≡ one_sheet at (session_front_at ram at)
+
+-- a chain that frames spell is what reading it gives
+abbrev pub ChainIsRead : Type 0
+ChainIsRead = (ram : Ram) (first : ℕ) (chain : List (Sheet Element)) → ram.count ≤ 2 ^ 64 → SpellChain ram first chain → chunks_at ram first ≡ Ok chain
+
+-- a chain that reading gives is one that the frames spell, where they hold bytes
+abbrev pub ReadIsChain : Type 0
+ReadIsChain = (ram : Ram) (first : ℕ) (chain : List (Sheet Element)) → Holds ram → chunks_at ram first ≡ Ok chain → SpellChain ram first chain

@@ -1,6 +1,6 @@
 //! Laws of what frames carry.
 
-ghost use Rattle.record_frames.specs.Laws.{OneState, NoState, OnePlace, KeptIsRead, ReadIsKept, StateOrPlace, OneSessionFrame};
+ghost use Rattle.record_frames.specs.Laws.{OneState, NoState, OnePlace, KeptIsRead, ReadIsKept, StateOrPlace, OneSessionFrame, ChainIsRead, ReadIsChain};
 
 use fdt_blob::laws::law_of_reading;
 
@@ -30,4 +30,11 @@ pub fn law_of_refusing()
 /// that gives none this frame breaks a rule. Nothing is done.
 pub fn law_of_session_frames()
     ensures { OneSessionFrame }
+{}
+
+/// A chain of chunk frames that frames spell is what reading it gives, and what reading gives is a chain that they spell.
+/// Nothing is done.
+pub fn law_of_the_chain()
+    ensures again { ChainIsRead }
+    ensures found { ReadIsChain }
 {}
