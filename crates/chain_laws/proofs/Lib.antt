@@ -1,0 +1,6 @@
+pub mod ElementTests
+pub mod ChunkFronts
+pub mod Rising
+pub mod InChain
+pub mod MarkedRuns
+pub mod ChainRead
