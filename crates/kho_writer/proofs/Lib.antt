@@ -1,0 +1,4 @@
+pub mod PageNumbers
+pub mod FolioPages
+pub mod ChunkNumbers
+pub mod CarryAll
