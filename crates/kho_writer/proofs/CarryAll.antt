@@ -22,7 +22,7 @@ use Rattle.record_frames.proofs.WrittenPages.{frames_with_pages}
 use Rattle.kho_laws.specs.Carrying.{runs_of_file, to_mark, CanHold, MarksJust, HoldKept, WrittenCarry}
 use Rattle.kho_laws.specs.Marks.{MarkedAfter}
 use Rattle.chain_laws.specs.Written.{HoldWritten, IsChainOf, WrittenIsChain}
-use Rattle.kho_writer.specs.Folios.{front_count, fronts, chunks, HasRoom, MarksOwn, HoldFolios, entry_blob, front_pages, AreWritten, FoliosCarry}
+use Rattle.kho_writer.specs.Folios.{front_count, fronts, chunks, HasRoom, MarksOwn, HoldFolios, blob_for, front_pages, AreWritten, FoliosCarry}
 use Rattle.kho_writer.proofs.PageNumbers.{numbers, numbers_in_use}
 use Rattle.kho_writer.proofs.FolioPages.{pages_held, begins_framed, held_front, held_back, numbered_frames, some_of}
 use Rattle.kho_writer.proofs.ChunkNumbers.{frames_behind, apart_behind, first_frame, frame_below}
@@ -118,7 +118,7 @@ module _ (c : Carried) (marks : Marks) (old fronts_new chunks_new : List FolioVa
     hold_kept : HoldKept ram c ats written.chain
     hold_kept = record {
       frame = holds.size (get_or ats 0 0) (frame_below ram.count (get_or ats 0 0) entry_frame);
-      entry = subst (λ (p : ℕ). Begins (ram.page (get_or ats 0 0)) (entry_blob c ats p)) first_chunk (begins_framed (ram.page (get_or ats 0 0)) (entry_blob c ats (get_or chs 0 0)) front_held.0);
+      entry = subst (λ (p : ℕ). Begins (ram.page (get_or ats 0 0)) (blob_for c ats p)) first_chunk (begins_framed (ram.page (get_or ats 0 0)) (blob_for c ats (get_or chs 0 0)) front_held.0);
       records = front_held.1;
       chunks = written.spelled;
       bounds = bounds;

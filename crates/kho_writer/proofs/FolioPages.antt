@@ -1,6 +1,6 @@
 -- Folios that hold pages.
-use Rattle.std.proofs.Common.{◌≡◌, ℕ, zero, suc, ◌<◌, List, [], ◌∷◌, ◌++◌, length, take, drop, get_or, refl, ap, ◌∙◌, arith}
-use Rattle.std.proofs.lemmas.List.{take_at}
+use Rattle.std.proofs.Common.{◌≡◌, ℕ, zero, suc, ◌+◌, ◌<◌, ◌≤◌, List, [], ◌∷◌, ◌++◌, length, take, drop, get_or, set, refl, sym, ap, ◌∙◌, arith}
+use Rattle.std.proofs.lemmas.List.{take_at, take_more, take_more_set, take_all, get_or-map, length-map}
 use Rattle.std.proofs.lemmas.List.Elements.{All-nil, All-cons, All-head, All-tail}
 use Rattle.ho_base.specs.declared.numbers.Pfn.{Pfn}
 use Rattle.phys_frames.specs.Memory.{FolioValue, first_frames}
@@ -53,3 +53,15 @@ numbered_frames (f ∷ fs) = ap (λ (l : List Pfn). f.first ∷ l) (numbered_fra
 pub some_of : (fs : List FolioValue) → 0 < length fs → FolioValue
 some_of [] lt = absurd (omega (arith, lt))
 some_of (f ∷ fs) lt = f
+
+-- the frames of folios, noted one after another
+pub noted_more : (folios : List FolioValue) (noted : List Pfn) (i : ℕ) (f : FolioValue) (p : Pfn) → i < length folios → length noted ≡ length folios → f ≡ get_or folios i f → p ≡ f.first
+    → take i noted ≡ take i (first_frames folios) → take (i + 1) (set noted i p) ≡ take (i + 1) (first_frames folios)
+noted_more folios noted i f p lt long f_is p_is so_far =
+    let here : p ≡ get_or (first_frames folios) i p = p_is ∙ ap (λ (g : FolioValue). g.first) f_is ∙ sym (get_or-map (λ (g : FolioValue). g.first) folios i f p lt) in
+    take_more_set noted i p (omega (arith, lt, long)) ∙ (λ j. so_far j ++ here j ∷ [])
+    ∙ sym (take_more (first_frames folios) i p (omega (arith, lt, length-map folios (λ (g : FolioValue). g.first))))
+
+pub noted_all : (folios : List FolioValue) (noted : List Pfn) (i : ℕ) → length folios ≤ i → length noted ≡ length folios → take i noted ≡ take i (first_frames folios) → noted ≡ first_frames folios
+noted_all folios noted i le long so_far =
+    sym (take_all i noted (omega (arith, le, long))) ∙ so_far ∙ take_all i (first_frames folios) (omega (arith, le, length-map folios (λ (g : FolioValue). g.first)))

@@ -60,14 +60,14 @@ CarryIt c folios =
     → Carries ram (slice_index (frames_of folios) 0) (state_in ram c)
 
 -- the blob of the entry frame, where the frames of the entry and the records have these numbers, and the first chunk frame this one
-abbrev pub entry_blob : Carried → List ℕ → ℕ → List ℕ
-entry_blob c ats chunk =
+abbrev pub blob_for : Carried → List ℕ → ℕ → List ℕ
+blob_for c ats chunk =
     spelling (handover_tree version_1 c.shape chunk
     (record { number = c.number; header = slice_index (drop 1 ats) 0; bounds = bound_frames (map (bound_among c.bounds) devices) }))
 
 -- the pages of the entry and the records in their order of use
 abbrev pub front_pages : Carried → List ℕ → ℕ → List Page
-front_pages c ats chunk = record { at = slice_index ats 0; bytes = entry_blob c ats chunk } ∷ pages_in_use (drop 1 ats) c.sessions
+front_pages c ats chunk = record { at = slice_index ats 0; bytes = blob_for c ats chunk } ∷ pages_in_use (drop 1 ats) c.sessions
 
 -- The folios of the entry and the records hold their pages, and those of the chunk frames the chain, which marks the tracker's runs
 -- and each frame of the entry and the records.
