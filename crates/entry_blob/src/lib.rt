@@ -1,0 +1,5 @@
+//! The blob of the handover tree, written straight into the entry frame.
+#![tactic(auto)]
+
+mod put;
+mod tokens;
