@@ -70,16 +70,16 @@ abbrev pub structure_part : List Area → ℕ → ℕ → ℕ → List (Option �
 structure_part areas chunk number header bounds =
     root_part areas chunk ++ (luo_part number header ++ (bounds_part 0 bounds ++ ends_part))
 
--- the name of a bound record that there may be, with its zero
-abbrev pub name_part : List ℕ → Option ℕ → List ℕ
-name_part name None = []
-name_part name (Some p) = name ++ 0 ∷ []
+-- a text, if there is a bound record
+abbrev pub if_given : List ℕ → Option ℕ → List ℕ
+if_given text None = []
+if_given text (Some p) = text
 
--- the names of the bound records that there are
+-- the names of the bound records that there are, each with its zero
 abbrev pub names_part : List (List ℕ) → List (Option ℕ) → List ℕ
 names_part [] bounds = []
 names_part (name ∷ names) [] = []
-names_part (name ∷ names) (b ∷ bounds) = name_part name b ++ names_part names bounds
+names_part (name ∷ names) (b ∷ bounds) = if_given (name ++ 0 ∷ []) b ++ names_part names bounds
 
 -- the strings block
 abbrev pub strings_part : List (Option ℕ) → List ℕ

@@ -1,5 +1,7 @@
 //! The blob of the handover tree, written straight into the entry frame.
 #![tactic(auto)]
 
+mod bounds;
+mod parts;
 mod put;
 mod tokens;
