@@ -1,8 +1,9 @@
 -- Bytes that are put one after another.
-use Rattle.std.proofs.Common.{◌≡◌, ℕ, ◌+◌, ◌*◌, ◌≤◌, List, [], ◌∷◌, ◌++◌, length, refl, sym, ap, subst, ◌∙◌, arith}
-use Rattle.std.proofs.lemmas.List.{length-append, append-nil}
+use Rattle.std.proofs.Common.{◌≡◌, ℕ, ◌+◌, ◌≤◌, List, [], ◌++◌, length, refl, sym, ap, subst, ◌∙◌, arith}
+use Rattle.std.proofs.lemmas.List.{length-append}
 use Rattle.phys_frames.specs.Memory.{FolioValue, with_bytes, written}
-use Rattle.record_frames.proofs.WrittenBytes.{behind, length_written, written_none}
+use Rattle.record_frames.specs.Writing.{framed, holding}
+use Rattle.record_frames.proofs.WrittenBytes.{behind, length_written, written_none, framed_more}
 use Rattle.entry_blob.specs.Layout.{patched, Puts}
 
 -- what one write of the folio does
@@ -41,3 +42,14 @@ puts_none f at size fits = record {
 -- other bytes that are the same
 pub puts_same : (f g : FolioValue) (at n : ℕ) (a b : List ℕ) → Puts f at a g n → a ≡ b → Puts f at b g n
 puts_same f g at n a b p e = subst (λ (x : List ℕ). Puts f at x g n) e p
+
+pub puts_at : (f g : FolioValue) (at m n : ℕ) (bytes : List ℕ) → m ≡ at → Puts f at bytes g n → Puts f m bytes g n
+puts_at f g at m n bytes e p = subst (λ (x : ℕ). Puts f x bytes g n) (sym e) p
+
+-- bytes put into a folio of zeros, from its beginning on
+pub puts_all : (f g h : FolioValue) (bytes : List ℕ) (n : ℕ) → g ≡ holding f [] → Puts g 0 bytes h n → h ≡ holding f bytes
+unfolding patched
+puts_all f g h bytes n zeros p =
+    p.is
+    ∙ ap (λ (x : FolioValue). with_bytes x (written x.bytes 0 bytes)) zeros
+    ∙ ap (with_bytes f) (framed_more [] bytes 0 refl (omega (arith, p.end_is, p.room)))

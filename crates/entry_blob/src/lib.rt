@@ -2,6 +2,9 @@
 #![tactic(auto)]
 
 mod bounds;
+mod entry;
 mod parts;
 mod put;
 mod tokens;
+
+pub use entry::write_entry;
