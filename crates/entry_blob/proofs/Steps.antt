@@ -1,9 +1,9 @@
 -- Bytes that are put one after another.
-use Rattle.std.proofs.Common.{◌≡◌, ℕ, ◌+◌, ◌≤◌, List, [], ◌++◌, length, refl, sym, ap, subst, ◌∙◌, arith}
+use Rattle.std.proofs.Common.{◌≡◌, ℕ, ◌+◌, ◌≤◌, List, [], ◌++◌, length, replicate, refl, sym, ap, subst, ◌∙◌, arith}
 use Rattle.std.proofs.lemmas.List.{length-append}
 use Rattle.phys_frames.specs.Memory.{FolioValue, with_bytes, written}
 use Rattle.record_frames.specs.Writing.{framed, holding}
-use Rattle.record_frames.proofs.WrittenBytes.{behind, length_written, written_none, framed_more}
+use Rattle.record_frames.proofs.WrittenBytes.{behind, length_written, written_none, framed_more, framed_none}
 use Rattle.entry_blob.specs.Layout.{patched, Puts}
 
 -- what one write of the folio does
@@ -53,3 +53,7 @@ puts_all f g h bytes n zeros p =
     p.is
     ∙ ap (λ (x : FolioValue). with_bytes x (written x.bytes 0 bytes)) zeros
     ∙ ap (with_bytes f) (framed_more [] bytes 0 refl (omega (arith, p.end_is, p.room)))
+
+-- a frame whose bytes are all zeros
+pub zeros_held : (f g : FolioValue) → length f.bytes ≡ 4096 → g ≡ with_bytes f (replicate (length f.bytes) 0) → g ≡ holding f []
+zeros_held f g size e = e ∙ ap (with_bytes f) (framed_none (length f.bytes) size)

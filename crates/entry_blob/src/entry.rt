@@ -1,6 +1,6 @@
 //! The entry frame, written.
 
-ghost use Rattle.std.specs.Prelude.{◌≡◌, ◌+◌, ◌*◌, ◌≤◌, length, map};
+ghost use Rattle.std.specs.Prelude.{◌≡◌, ◌+◌, ◌*◌, ◌≤◌, [], length, map};
 ghost use Rattle.ho_base.specs.declared.limits.TheConstants.{PAGE_BYTES, SCRATCH_AREAS};
 ghost use Rattle.fdt_blob.specs.Spelling.{spelling};
 ghost use Rattle.record_frames.specs.Rules.{version_1};
@@ -54,6 +54,16 @@ fn put_structure(
     put_ends(folio, ends)
 }
 
+/// Makes a frame hold zeros alone.
+fn clear(folio: &mut Folio)
+    requires { folio.old.order.0 ≡ 0 }
+    ensures blank { folio.new ≡ holding folio.old [] }
+    ensures size { length folio.new.bytes ≡ PAGE_BYTES }
+{
+    let _page = folio.bytes();
+    folio.zero();
+}
+
 /// Writes the entry frame: the blob of the handover tree in its one spelling, and zeros behind it. The tree says the
 /// machine's scratch areas, the first chunk frame, the update number, the session frame, and for each kind in order the
 /// frame of its bound record, if there is one. Frame, order and home of the folio stay. It takes no memory, and costs
@@ -70,8 +80,7 @@ pub fn write_entry(
     ensures blob { folio.new ≡ holding folio.old (spelling (handover_tree version_1 shape.now chunk.0 (luo_with number header bounds.now))) }
     ensures within { length (spelling (handover_tree version_1 shape.now chunk.0 (luo_with number header bounds.now))) ≤ PAGE_BYTES }
 {
-    let _page = folio.bytes();
-    folio.zero();
+    clear(folio);
     let areas = shape.scratch();
     put_front(folio, structure_bytes(areas, bounds), strings_bytes(bounds));
     let strings = put_structure(folio, areas, number, chunk, header, bounds);

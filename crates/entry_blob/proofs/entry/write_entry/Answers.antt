@@ -1,18 +1,12 @@
-use Rattle.std.proofs.Common.{◌≡◌, ◌≤◌, ℕ, List, [], ◌++◌, length, map, sym, ap, subst, ◌∙◌, arith, rules}
+use Rattle.std.proofs.Common.{◌≡◌, ◌≤◌, ℕ, List, [], ◌++◌, length, map, sym, ap, subst, ◌∙◌, arith}
 use Rattle.std.proofs.lemmas.List.{length-map}
 use Rattle.ho_base.specs.declared.shape.Area.{Area}
-use Rattle.phys_frames.specs.Memory.{FolioValue}
 use Rattle.record_frames.specs.Writing.{holding}
-use Rattle.record_frames.proofs.WrittenBytes.{begun_size, holds_page}
 use Rattle.entry_blob.specs.Entry.{number_at, luo_with, entry_bytes}
 use Rattle.entry_blob.specs.Layout.{Puts, front_part, structure_part, strings_part}
 use Rattle.entry_blob.proofs.Steps.{then_puts, puts_at, puts_all}
 use Rattle.entry_blob.proofs.Laid.{entry_is}
 use Rattle.entry_blob.proofs.entry.write_entry.Goals as goal
-
--- the frame before its first byte is put
-begun : (c : goal.After-put_names) → c.zero.new.self ≡ holding c.args.folio.now []
-begun c = begun_size c.args.folio.now c.zero.new.self c.bytes-page.result.now c.bytes-page.ensures.value c.bytes-page.ensures.len c.requires c.zero.ensures
 
 abbrev structure : (c : goal.After-put_names) → List ℕ
 structure c = structure_part c.args.shape.now.scratch c.args.chunk.0 c.args.number c.args.header.0 (map number_at c.args.bounds.now)
@@ -29,14 +23,11 @@ structure_put c =
     (λ (areas : List Area). Puts c.put_front.new.folio 56 (structure_part areas c.args.chunk.0 c.args.number c.args.header.0 (map number_at c.args.bounds.now)) c.put_structure-strings.new.folio c.put_structure-strings.result)
     c.scratch-areas.ensures.same c.put_structure-strings.ensures.put
 
-size : (c : goal.After-put_names) → length c.zero.new.self.bytes ≡ 4096
-size c = holds_page c.args.folio.now c.zero.new.self [] (search rules) (begun c)
-
-whole : (c : goal.After-put_names) → Puts c.zero.new.self 0 (front c ++ (structure c ++ strings c)) c.put_names.new.folio c.put_names.result
+whole : (c : goal.After-put_names) → Puts c.clear.new.folio 0 (front c ++ (structure c ++ strings c)) c.put_names.new.folio c.put_names.result
 whole c =
     let last = c.put_names.new.folio in
     let n = c.put_names.result in
-    then_puts c.zero.new.self c.put_front.new.folio last 0 c.put_front.result n (front c) (structure c ++ strings c) (size c) c.put_front.ensures.put
+    then_puts c.clear.new.folio c.put_front.new.folio last 0 c.put_front.result n (front c) (structure c ++ strings c) c.clear.ensures.size c.put_front.ensures.put
     (then_puts c.put_front.new.folio c.put_structure-strings.new.folio last c.put_front.result c.put_structure-strings.result n (structure c) (strings c) c.put_front.ensures.put.size
     (puts_at c.put_front.new.folio c.put_structure-strings.new.folio 56 c.put_front.result c.put_structure-strings.result (structure c) c.put_front.ensures.end (structure_put c))
     c.put_names.ensures.put)
@@ -50,7 +41,7 @@ spelled c =
 
 pub returns-clause-blob : goal.returns-clause-blob
 returns-clause-blob c =
-    puts_all c.args.folio.now c.zero.new.self c.put_names.new.folio (front c ++ (structure c ++ strings c)) c.put_names.result (begun c) (whole c)
+    puts_all c.args.folio.now c.clear.new.folio c.put_names.new.folio (front c ++ (structure c ++ strings c)) c.put_names.result c.clear.ensures.blank (whole c)
     ∙ ap (holding c.args.folio.now) (spelled c)
 
 pub returns-clause-within : goal.returns-clause-within
