@@ -13,6 +13,7 @@ use std::alloc::{AllocError, Global};
 use std::io;
 
 /// What the tree of an entry frame says.
+#[derive(Drop)]
 struct Told {
     number: u32,
     chunk: Pfn,
