@@ -1,5 +1,5 @@
 -- What is carried shows what was read.
-use Rattle.std.proofs.Common.{◌≡◌, ℕ, List, [], ◌∷◌, ◌++◌, length, map, take, Option, Some, None, refl, sym, ap, ◌∙◌}
+use Rattle.std.proofs.Common.{◌≡◌, ℕ, List, [], ◌∷◌, ◌++◌, length, get_or, map, take, Option, Some, None, refl, sym, ap, ◌∙◌, arith}
 use Rattle.std.specs.List.{flat_map}
 use Rattle.std.proofs.lemmas.List.{append-nil, map-append}
 use Rattle.ho_base.specs.declared.numbers.Pfn.{Pfn}
@@ -77,8 +77,8 @@ session_pushed ram s c out new push name files =
     ap (map (session_in ram)) push ∙ map-append (session_in ram) out (c ∷ []) ∙ ap (λ (x : SessionState). map (session_in ram) out ++ x ∷ []) is
 
 -- the bound records under their kinds are found by them
-pub bounds_shown : (a b c d : Option CarriedBound)
-    → map (bound_among (of_kind Dev0 a ++ (of_kind Dev1 b ++ (of_kind Dev2 c ++ of_kind Dev3 d)))) devices ≡ map bound_view (a ∷ b ∷ c ∷ d ∷ [])
+bounds_shown : (a b c d : Option CarriedBound)
+    → map (bound_among (((of_kind Dev0 a ++ of_kind Dev1 b) ++ of_kind Dev2 c) ++ of_kind Dev3 d)) devices ≡ map bound_view (a ∷ b ∷ c ∷ d ∷ [])
 bounds_shown None None None None = refl
 bounds_shown None None None (Some d) = refl
 bounds_shown None None (Some c) None = refl
@@ -95,6 +95,27 @@ bounds_shown (Some a) (Some b) None None = refl
 bounds_shown (Some a) (Some b) None (Some d) = refl
 bounds_shown (Some a) (Some b) (Some c) None = refl
 bounds_shown (Some a) (Some b) (Some c) (Some d) = refl
+
+-- a list of four
+four_are : {A : Type 0} (xs : List A) (a b c d : A) → length xs ≡ 4 → a ≡ get_or xs 0 a → b ≡ get_or xs 1 b → c ≡ get_or xs 2 c → d ≡ get_or xs 3 d → xs ≡ a ∷ b ∷ c ∷ d ∷ []
+four_are [] a b c d h ea eb ec ed = absurd (omega (arith, h))
+four_are (x ∷ []) a b c d h ea eb ec ed = absurd (omega (arith, h))
+four_are (x ∷ y ∷ []) a b c d h ea eb ec ed = absurd (omega (arith, h))
+four_are (x ∷ y ∷ z ∷ []) a b c d h ea eb ec ed = absurd (omega (arith, h))
+four_are (x ∷ y ∷ z ∷ w ∷ []) a b c d h ea eb ec ed = sym (λ j. ea j ∷ eb j ∷ ec j ∷ ed j ∷ [])
+four_are (x ∷ y ∷ z ∷ w ∷ v ∷ vs) a b c d h ea eb ec ed = absurd (omega (arith, h))
+
+-- the bound records that are added one after the other
+pub bounds_all : (xs : List (Option CarriedBound)) (a b c d : Option CarriedBound) (v0 v1 v2 v3 v4 v : List CarriedBound) → length xs ≡ 4
+    → a ≡ get_or xs 0 a → b ≡ get_or xs 1 b → c ≡ get_or xs 2 c → d ≡ get_or xs 3 d → v0 ≡ [] → v1 ≡ v0 ++ of_kind Dev0 a → v2 ≡ v1 ++ of_kind Dev1 b
+    → v3 ≡ v2 ++ of_kind Dev2 c → v4 ≡ v3 ++ of_kind Dev3 d → v ≡ v4 → map (bound_among v) devices ≡ map bound_view xs
+bounds_all xs a b c d v0 v1 v2 v3 v4 v four ea eb ec ed e0 e1 e2 e3 e4 e =
+    let is1 : v1 ≡ of_kind Dev0 a = e1 ∙ ap (λ (l : List CarriedBound). l ++ of_kind Dev0 a) e0 in
+    let is2 : v2 ≡ of_kind Dev0 a ++ of_kind Dev1 b = e2 ∙ ap (λ (l : List CarriedBound). l ++ of_kind Dev1 b) is1 in
+    let is3 : v3 ≡ (of_kind Dev0 a ++ of_kind Dev1 b) ++ of_kind Dev2 c = e3 ∙ ap (λ (l : List CarriedBound). l ++ of_kind Dev2 c) is2 in
+    let is4 : v4 ≡ ((of_kind Dev0 a ++ of_kind Dev1 b) ++ of_kind Dev2 c) ++ of_kind Dev3 d = e4 ∙ ap (λ (l : List CarriedBound). l ++ of_kind Dev3 d) is3 in
+    ap (λ (l : List CarriedBound). map (bound_among l) devices) (e ∙ is4) ∙ bounds_shown a b c d
+    ∙ ap (map bound_view) (sym (four_are xs a b c d four ea eb ec ed))
 
 -- the chunk frames' numbers
 abbrev pub one_number : ChunkSheet → List ℕ
