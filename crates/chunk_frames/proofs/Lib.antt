@@ -1,1 +1,5 @@
-
+mod Rising
+mod Fronts
+mod FrontTests
+mod Elements
+mod ChunkLoop

@@ -8,6 +8,9 @@ use Rattle.chunk_frames.specs.declared.sheet.ChunkSheet.{ChunkSheet}
 abbrev pub element_view : ElementRead → Element
 element_view e = record { base = e.base; order = e.order; bits = e.bits.items }
 
+abbrev pub elements_view : List ElementRead → List Element
+elements_view elements = map element_view elements
+
 abbrev pub chunk_view : ChunkSheet → Sheet Element
 chunk_view s = record { at = s.at; items = map element_view s.items.items }
 

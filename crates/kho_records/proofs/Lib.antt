@@ -1,0 +1,6 @@
+mod Adding
+mod Limits
+mod KeptSteps
+mod RunLists
+mod Shown
+mod Held

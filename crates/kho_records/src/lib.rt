@@ -1,0 +1,11 @@
+//! What frames carry from one kernel to the next, read from any bytes.
+#![tactic(auto)]
+
+mod carrying;
+mod pages;
+mod reading;
+mod surveying;
+mod users;
+
+pub use record_frames::{Carried, CarriedBound, CarriedFile, CarriedSession, ImagePlace, need};
+pub use surveying::{SurveyError, survey};
