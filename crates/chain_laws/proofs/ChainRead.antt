@@ -15,7 +15,7 @@ use Rattle.record_frames.specs.Sheets.{Sheet, items_of, numbers_of}
 use Rattle.record_frames.specs.Rules.{ELEMENTS, all_apart, all_rise, element_before, is_element, is_chunk_sheet}
 use Rattle.record_frames.specs.Laws.{Holds, ReadIsChain}
 use Rattle.record_frames.specs.Reading.{Front, also, go_on, sheet_at, front_at, chain_from, chain_at, chunks_at, chunk_layout}
-use Rattle.chain_laws.specs.Written.{WrittenIsChain}
+use Rattle.chain_laws.specs.Written.{HoldWritten, IsChainOf}
 use Rattle.chain_laws.proofs.ChunkFronts.{front_is}
 use Rattle.chain_laws.proofs.Rising.{not_before, few_frames, rise_front, follow_rise}
 use Rattle.chain_laws.proofs.InChain.{sheet_of, chain_of, numbers_again, From, tail_from, head_from, chain_follow, Passes, frame_passes}
@@ -88,10 +88,11 @@ module _ (ram : Ram) (runs : Runs) (members : (r : Run) → sets.contains runs r
       ∙ more
       ∙ ap (λ (x : List (Sheet Element)). Ok x) (append_assoc earlier (sheet_of ram p ∷ []) (chain_of ram (q ∷ chunks)))
 
-pub written_is_chain : ReadIsChain → WrittenIsChain
+-- where all frames hold bytes
+pub held_is_chain : ReadIsChain → (ram : Ram) (runs : Runs) (chunks : List ℕ) → 0 < ram.count → Holds ram → HoldWritten ram runs chunks → IsChainOf ram runs chunks
 unfolding chunks_at chain_at
-written_is_chain law ram runs [] some holds h = absurd (omega (arith, h.count, some_bitmaps ram.count some))
-written_is_chain law ram runs (p ∷ chunks) some holds h =
+held_is_chain law ram runs [] some holds h = absurd (omega (arith, h.count, some_bitmaps ram.count some))
+held_is_chain law ram runs (p ∷ chunks) some holds h =
     let n = ram.count in
     let from = from_first ram runs h.members (p ∷ chunks) h.count h.pages in
     let rise = follow_rise n (7 * 0) (items_of (chain_of ram (p ∷ chunks))) (chain_follow ram runs h.members 0 (p ∷ chunks) (omega (arith, h.count)) from) in

@@ -4,3 +4,4 @@ pub mod Rising
 pub mod InChain
 pub mod MarkedRuns
 pub mod ChainRead
+pub mod OtherFrames

@@ -11,7 +11,6 @@ use Rattle.record_frames.specs.Ram.{Ram, is_frame}
 use Rattle.record_frames.specs.Sheets.{Sheet, first_of, items_of, numbers_of}
 use Rattle.record_frames.specs.Rules.{all_apart, is_marked}
 use Rattle.record_frames.specs.Carries.{SpellChain}
-use Rattle.record_frames.specs.Laws.{Holds}
 
 -- The frames with these numbers hold what is written for a set of runs: as many frames as the machine needs, each one of its frames
 -- from 1 on and none twice, frame i of them with the i-th part of the chain.
@@ -29,6 +28,10 @@ pub record IsChainOf (ram : Ram) (runs : Runs) (chunks : List ℕ) : Type 0 wher
   pub spelled : SpellChain ram (first_of chain) chain
   pub marks : (r : Run) → r.order ≤ MAX_ORDER → is_marked (items_of chain) r ≡ set.contains runs r
 
+-- what the frames with these numbers hold are bytes
+abbrev pub HoldBytes : Ram → List ℕ → Type 0
+HoldBytes ram chunks = (i d : ℕ) → i < length chunks → (j : ℕ) → slice_index (ram.page (slice_index_or chunks i d)) j < 256
+
 -- what is written for a set of runs is a chain that marks just these, on any machine that has frames
 abbrev pub WrittenIsChain : Type 0
-WrittenIsChain = (ram : Ram) (runs : Runs) (chunks : List ℕ) → 0 < ram.count → Holds ram → HoldWritten ram runs chunks → IsChainOf ram runs chunks
+WrittenIsChain = (ram : Ram) (runs : Runs) (chunks : List ℕ) → 0 < ram.count → HoldBytes ram chunks → HoldWritten ram runs chunks → IsChainOf ram runs chunks

@@ -12,16 +12,16 @@ use Rattle.record_frames.specs.Ram.{Ram, Begins, is_frame}
 use Rattle.record_frames.specs.Sheets.{Sheet, first_of, numbers_of}
 use Rattle.record_frames.specs.Kept.{devices, bound_frames, bound_pages}
 use Rattle.record_frames.specs.Carries.{HavePages, Carries}
-use Rattle.record_frames.specs.Laws.{Holds}
 use Rattle.record_frames.specs.Owners.{given}
 use Rattle.record_frames.specs.State.{bound_among, state_in}
 use Rattle.record_frames.specs.Writing.{frames_of, files_in}
 use Rattle.record_frames.specs.Written.{HoldPages}
 use Rattle.record_frames.specs.declared.carried.Carried.{Carried}
+use Rattle.record_frames.proofs.WrittenBytes.{length_framed}
 use Rattle.record_frames.proofs.WrittenPages.{frames_with_pages}
 use Rattle.kho_laws.specs.Carrying.{runs_of_file, to_mark, CanHold, MarksJust, HoldKept, WrittenCarry}
 use Rattle.kho_laws.specs.Marks.{MarkedAfter}
-use Rattle.chain_laws.specs.Written.{HoldWritten, IsChainOf, WrittenIsChain}
+use Rattle.chain_laws.specs.Written.{HoldBytes, HoldWritten, IsChainOf, WrittenIsChain}
 use Rattle.kho_writer.specs.Folios.{front_count, fronts, chunks, HasRoom, MarksOwn, HoldFolios, blob_for, front_pages, AreWritten, FoliosCarry}
 use Rattle.kho_writer.proofs.PageNumbers.{numbers, numbers_in_use}
 use Rattle.kho_writer.proofs.FolioPages.{pages_held, begins_framed, held_front, held_back, numbered_frames, some_of}
@@ -40,7 +40,7 @@ first_of_two [] ys lt = absurd (omega (arith, lt))
 first_of_two (x ∷ xs) ys lt = refl
 
 module _ (c : Carried) (marks : Marks) (old fronts_new chunks_new : List FolioValue) (room : HasRoom c old) (own : MarksOwn c marks)
-    (w : AreWritten c marks (fronts c old) (chunks c old) fronts_new chunks_new) (ram : Ram) (count : ram.count ≡ c.shape.frames) (holds : Holds ram)
+    (w : AreWritten c marks (fronts c old) (chunks c old) fronts_new chunks_new) (ram : Ram) (count : ram.count ≡ c.shape.frames)
     (held : HoldFolios ram (fronts_new ++ chunks_new)) (bounds : HavePages ram (bound_pages (map (bound_among c.bounds) devices))) where
   abbrev fs : List FolioValue
   fs = fronts c old
@@ -89,6 +89,12 @@ module _ (c : Carried) (marks : Marks) (old fronts_new chunks_new : List FolioVa
     members = λ r t. subst (λ (n : ℕ). IsRun n r) (own.frames ∙ sym count) (w.members r t);
   }
 
+  hold_bytes : HoldBytes ram chs
+  hold_bytes i d lt j =
+      let lt' : i < length cs = omega (arith, lt, length-map cs (λ (f : FolioValue). f.first.0)) in
+      let f = some_of cs (omega (arith, lt')) in
+      subst (λ (page : List ℕ). get_or page j 0 < 256) (sym (page_is i d lt' f)) (w.bytes i (omega (arith, lt', w.size)) f j)
+
   -- ---- the entry and the records
 
   chunk : ℕ
@@ -104,7 +110,7 @@ module _ (c : Carried) (marks : Marks) (old fronts_new chunks_new : List FolioVa
 
   module _ (law : WrittenIsChain) (after : MarkedAfter) where
     written : IsChainOf ram runs chs
-    written = law ram runs chs (omega (arith, frame_below ram.count (get_or ats 0 0) entry_frame)) holds hold_written
+    written = law ram runs chs (omega (arith, frame_below ram.count (get_or ats 0 0) entry_frame)) hold_bytes hold_written
 
     marks_just : MarksJust c ats written.chain
     marks_just r small =
@@ -117,7 +123,7 @@ module _ (c : Carried) (marks : Marks) (old fronts_new chunks_new : List FolioVa
 
     hold_kept : HoldKept ram c ats written.chain
     hold_kept = record {
-      frame = holds.size (get_or ats 0 0) (frame_below ram.count (get_or ats 0 0) entry_frame);
+      frame = ap length front_held.0 ∙ length_framed (blob_for c ats (get_or chs 0 0)) w.fits;
       entry = subst (λ (p : ℕ). Begins (ram.page (get_or ats 0 0)) (blob_for c ats p)) first_chunk (begins_framed (ram.page (get_or ats 0 0)) (blob_for c ats (get_or chs 0 0)) front_held.0);
       records = front_held.1;
       chunks = written.spelled;
@@ -134,5 +140,5 @@ module _ (c : Carried) (marks : Marks) (old fronts_new chunks_new : List FolioVa
         (carry ram c ats written.chain count room.can (subst (CanHold c ats) (sym written.numbers) room.hold) marks_just hold_kept)
 
 pub folios_carry : WrittenIsChain → MarkedAfter → WrittenCarry → FoliosCarry
-folios_carry law after carry c marks old fronts_new chunks_new room own w ram count holds held bounds =
-    carry_all c marks old fronts_new chunks_new room own w ram count holds held bounds law after carry
+folios_carry law after carry c marks old fronts_new chunks_new room own w ram count held bounds =
+    carry_all c marks old fronts_new chunks_new room own w ram count held bounds law after carry

@@ -1,11 +1,12 @@
 -- Folios that are written in parts.
-use Rattle.std.proofs.Common.{◌≡◌, ℕ, ◌+◌, ◌-◌, ◌<◌, true, Option, List, [], ◌∷◌, ◌++◌, length, map, take, drop, get_or, set as put, refl, sym, ap, subst, ◌∙◌, inl, inr, arith}
+use Rattle.std.proofs.Common.{◌≡◌, ℕ, ◌+◌, ◌-◌, ◌<◌, ◌≤◌, true, Option, List, [], ◌∷◌, ◌++◌, length, map, take, drop, get_or, set as put, refl, sym, ap, subst, ◌∙◌, inl, inr, arith}
 use Rattle.std.specs.FinSet as set
 use Rattle.std.specs.List.{All, list_all, flat_map}
 use Rattle.std.proofs.lemmas.Bool.{cases_lt, and_parts}
 use Rattle.std.proofs.lemmas.List.{length-append, length-take-le, length-drop, take-append-drop, get_or_append_left, get_or-append_right}
 use Rattle.std.proofs.lemmas.List.Elements.{All-nil, All-cons}
 use Rattle.fdt_blob.specs.Spelling.{spelling}
+use Rattle.ho_base.specs.declared.limits.TheConstants.{PAGE_BYTES}
 use Rattle.ho_base.specs.BitmapCount.{chunk_frames}
 use Rattle.ho_base.specs.declared.numbers.Pfn.{Pfn}
 use Rattle.folio_bitmaps.specs.Runs.{Run, Marks, IsRun}
@@ -22,7 +23,7 @@ use Rattle.record_frames.proofs.WrittenPages.{length_with_pages}
 use Rattle.kho_laws.specs.Tree.{handover_tree}
 use Rattle.kho_laws.specs.Owners.{is_run_of}
 use Rattle.kho_laws.specs.Carrying.{runs_of_file}
-use Rattle.kho_writer.specs.Folios.{front_count, fronts, chunks, HasRoom, MarksOwn, OtherBytes, front_pages, AreWritten}
+use Rattle.kho_writer.specs.Folios.{front_count, fronts, chunks, HasRoom, MarksOwn, OtherBytes, HaveBytes, blob_for, front_pages, AreWritten}
 use Rattle.kho_writer.proofs.FolioPages.{other_bytes}
 use Rattle.kho_writer.proofs.ChunkNumbers.{frame_from, frame_below}
 
@@ -42,6 +43,18 @@ fronts_written c (f ∷ fs) first rest records h x chunk header bounds a b count
     hh ∙ (λ i. holding (get_or (a i) 0 x) (blob_with c chunk (head i) (be i))) in
     let others : records ≡ with_pages fs (pages_in_use (frames_of fs) c.sessions) = r ∙ ap (λ (l : List FolioValue). with_pages l (pages_in_use (frames_of l) c.sessions)) b in
     λ i. put (a i) 0 (entry i) ++ others i
+
+-- the blob fits its frame
+pub blob_fits : (c : Carried) (fs rest : List FolioValue) (chunk header : ℕ) (bounds : List (Option ℕ)) → rest ≡ drop 1 fs → header ≡ get_or (frames_of rest) 0 0
+    → bounds ≡ bound_frames (map (bound_among c.bounds) devices) → length (blob_with c chunk header bounds) ≤ PAGE_BYTES → length (blob_for c (frames_of fs) chunk) ≤ PAGE_BYTES
+blob_fits c fs rest chunk header bounds b he be fits =
+    let head : header ≡ get_or (drop 1 (frames_of fs)) 0 0 = he ∙ ap (λ (l : List FolioValue). get_or (frames_of l) 0 0) b ∙ ap (λ (l : List ℕ). get_or l 0 0) (behind_first fs) in
+    let same : length (blob_with c chunk header bounds) ≡ length (blob_for c (frames_of fs) chunk) = λ i. length (blob_with c chunk (head i) (be i)) in
+    omega (arith, same, fits)
+  where
+    behind_first : (fs : List FolioValue) → frames_of (drop 1 fs) ≡ drop 1 (frames_of fs)
+    behind_first [] = refl
+    behind_first (f ∷ fs) = refl
 
 -- the number of the first folio
 pub first_is : (fs : List FolioValue) (f : FolioValue) (p : Pfn) → 0 < length fs → p ≡ (get_or fs 0 f).first → p.0 ≡ get_or (frames_of fs) 0 0
@@ -107,6 +120,7 @@ module _ (c : Carried) (marks : Marks) (old fs cs fs_new cs_new : List FolioValu
     (front : fs ≡ take mid old) (back : cs ≡ drop mid old) (at : mid ≡ front_count c) (noted_is : noted ≡ first_frames fs) (chunk_is : chunk ≡ get_or (frames_of cs) 0 0)
     (pages : fs_new ≡ with_pages fs (front_pages c (frames_of fs) chunk)) (members : (r : Run) → set.contains (with_frames marks.runs noted) r ≡ true → IsRun marks.frames r)
     (same : OtherBytes cs cs_new) (size : length cs_new ≡ length cs)
+    (fits : length (blob_for c (frames_of fs) chunk) ≤ PAGE_BYTES) (bytes : HaveBytes cs_new)
     (written : (i : ℕ) → i < length cs → (d : FolioValue) → IsWritten marks.frames (with_frames marks.runs noted) i (next_first cs i) (get_or cs_new i d).bytes) where
   front_is : fs ≡ fronts c old
   front_is = front ∙ ap (λ (k : ℕ). take k old) at
@@ -121,6 +135,8 @@ module _ (c : Carried) (marks : Marks) (old fs cs fs_new cs_new : List FolioValu
         members = subst (λ (ps : List Pfn). (r : Run) → set.contains (with_frames marks.runs ps) r ≡ true → IsRun marks.frames r) noted_is members;
         same = same;
         size = size;
+        fits = subst (λ (p : ℕ). length (blob_for c (frames_of fs) p) ≤ PAGE_BYTES) chunk_is fits;
+        bytes = bytes;
         written = subst (λ (ps : List Pfn). (i : ℕ) → i < length cs → (d : FolioValue) → IsWritten marks.frames (with_frames marks.runs ps) i (next_first cs i) (get_or cs_new i d).bytes) noted_is written;
       } in
       subst (λ (l : List FolioValue). AreWritten c marks (fronts c old) l fs_new cs_new) back_is (subst (λ (l : List FolioValue). AreWritten c marks l cs fs_new cs_new) front_is here)

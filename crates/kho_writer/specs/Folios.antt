@@ -1,8 +1,9 @@
 -- Folios into which a state is written, and what they hold then.
-use Rattle.std.specs.Prelude.{◌≡◌, ℕ, ◌+◌, ◌<◌, List, ◌∷◌, ◌++◌, length, map, take, drop, slice_index, slice_index_or, IsTrue}
+use Rattle.std.specs.Prelude.{◌≡◌, ℕ, ◌+◌, ◌<◌, ◌≤◌, List, ◌∷◌, ◌++◌, length, map, take, drop, slice_index, slice_index_or, IsTrue}
 use Rattle.std.specs.FinSet as set
 use Rattle.std.specs.List.{All}
 use Rattle.ho_base.specs.BitmapCount.{chunk_frames}
+use Rattle.ho_base.specs.declared.limits.TheConstants.{PAGE_BYTES}
 use Rattle.fdt_blob.specs.Spelling.{spelling}
 use Rattle.folio_bitmaps.specs.Runs.{Run, Marks, IsRun}
 use Rattle.folio_bitmaps.specs.Written.{IsWritten, next_first, with_frames}
@@ -11,7 +12,6 @@ use Rattle.record_frames.specs.Ram.{Ram, Page}
 use Rattle.record_frames.specs.Rules.{version_1}
 use Rattle.record_frames.specs.Kept.{devices, bound_frames, bound_pages}
 use Rattle.record_frames.specs.Carries.{HavePages, Carries}
-use Rattle.record_frames.specs.Laws.{Holds}
 use Rattle.record_frames.specs.State.{bound_among, state_in}
 use Rattle.record_frames.specs.Writing.{files_in, files_of_sessions, frames_of, lists_of_files, pages_in_use, with_pages}
 use Rattle.record_frames.specs.declared.carried.Carried.{Carried}
@@ -56,7 +56,7 @@ HoldFolios ram folios = All (λ f. ram.page f.first.0 ≡ f.bytes) folios
 -- number carry this.
 abbrev pub CarryIt : Carried → List FolioValue → Type 0
 CarryIt c folios =
-    (ram : Ram) → ram.count ≡ c.shape.frames → Holds ram → HoldFolios ram folios → HavePages ram (bound_pages (map (bound_among c.bounds) devices))
+    (ram : Ram) → ram.count ≡ c.shape.frames → HoldFolios ram folios → HavePages ram (bound_pages (map (bound_among c.bounds) devices))
     → Carries ram (slice_index (frames_of folios) 0) (state_in ram c)
 
 -- the blob of the entry frame, where the frames of the entry and the records have these numbers, and the first chunk frame this one
@@ -69,6 +69,10 @@ blob_for c ats chunk =
 abbrev pub front_pages : Carried → List ℕ → ℕ → List Page
 front_pages c ats chunk = record { at = slice_index ats 0; bytes = blob_for c ats chunk } ∷ pages_in_use (drop 1 ats) c.sessions
 
+-- what folios hold are bytes
+abbrev pub HaveBytes : List FolioValue → Type 0
+HaveBytes folios = (i : ℕ) → i < length folios → (d : FolioValue) → (j : ℕ) → slice_index (slice_index_or folios i d).bytes j < 256
+
 -- The folios of the entry and the records hold their pages, and those of the chunk frames the chain, which marks the tracker's runs
 -- and each frame of the entry and the records.
 pub record AreWritten (c : Carried) (marks : Marks) (fronts chunks fronts_new chunks_new : List FolioValue) : Type 0 where
@@ -76,6 +80,8 @@ pub record AreWritten (c : Carried) (marks : Marks) (fronts chunks fronts_new ch
   pub members : (r : Run) → IsTrue (set.contains (with_frames marks.runs (first_frames fronts)) r) → IsRun marks.frames r
   pub same : OtherBytes chunks chunks_new
   pub size : length chunks_new ≡ length chunks
+  pub fits : length (blob_for c (frames_of fronts) (slice_index (frames_of chunks) 0)) ≤ PAGE_BYTES
+  pub bytes : HaveBytes chunks_new
   pub written : (i : ℕ) → i < length chunks → (d : FolioValue) → IsWritten marks.frames (with_frames marks.runs (first_frames fronts)) i (next_first chunks i) (slice_index_or chunks_new i d).bytes
 
 -- what is written carries what it was written for

@@ -1,11 +1,12 @@
 //! The entry frame and the records, written.
 
-ghost use Rattle.std.specs.Prelude.{◌≡◌, ◌<◌, IsTrue, length, slice_index};
+ghost use Rattle.std.specs.Prelude.{◌≡◌, ◌<◌, ◌≤◌, IsTrue, length, slice_index};
 ghost use Rattle.std.specs.List.{All};
+ghost use Rattle.ho_base.specs.declared.limits.TheConstants.{PAGE_BYTES};
 ghost use Rattle.phys_frames.specs.Memory.{first_frames};
 ghost use Rattle.record_frames.specs.Writing.{frames_of, with_pages};
 ghost use Rattle.kho_laws.specs.Carrying.{can_be_carried};
-ghost use Rattle.kho_writer.specs.Folios.{front_count, front_pages};
+ghost use Rattle.kho_writer.specs.Folios.{blob_for, front_count, front_pages};
 
 use crate::bounds::bound_frames;
 use entry_blob::write_entry;
@@ -38,7 +39,8 @@ pub(crate) fn write_fronts(carried: &Carried, chunk: Pfn, folios: &mut [Folio])
     requires can { IsTrue (can_be_carried carried.now) }
     requires count { length folios.old ≡ front_count carried.now }
     requires orders { All (λ f. f.order.0 ≡ 0) folios.old }
-    ensures { folios.new ≡ with_pages folios.old (front_pages carried.now (frames_of folios.old) chunk.0) }
+    ensures pages { folios.new ≡ with_pages folios.old (front_pages carried.now (frames_of folios.old) chunk.0) }
+    ensures fits { length (blob_for carried.now (frames_of folios.old) chunk.0) ≤ PAGE_BYTES }
 {
     let (entry, records) = folios.split_at_mut(1);
     let header = first_number(records);

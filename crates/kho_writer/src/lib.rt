@@ -2,6 +2,7 @@
 #![tactic(auto)]
 
 mod bounds;
+mod bytes;
 mod fronts;
 pub mod laws;
 mod prepared;

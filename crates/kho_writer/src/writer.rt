@@ -3,6 +3,7 @@
 ghost use Rattle.std.specs.Prelude.{◌≡◌};
 ghost use Rattle.kho_writer.specs.Folios.{CarryIt, HasRoom, MarksOwn, OtherBytes, front_count};
 
+use crate::bytes::have_bytes;
 use crate::fronts::{first_number, note_frames, write_fronts};
 use crate::laws::law_of_written_folios;
 use crate::prepared::Prepared;
@@ -27,6 +28,7 @@ pub fn write(prepared: Prepared, carried: &Carried, tracker: &Tracker, folios: &
     let chunk = first_number(chunks);
     note_frames(fronts, &mut numbers);
     tracker.write_chain(&numbers, chunks);
+    have_bytes(chunks);
     write_fronts(carried, chunk, fronts);
     law_of_written_folios();
 }

@@ -1,4 +1,4 @@
-use Rattle.chain_laws.proofs.ChainRead.{written_is_chain}
+use Rattle.chain_laws.proofs.OtherFrames.{written_is_chain}
 use Rattle.chain_laws.proofs.written.law_of_the_written_chain.Goals as goal
 
 pub returns : goal.returns

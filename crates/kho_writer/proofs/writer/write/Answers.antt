@@ -32,10 +32,10 @@ returns c =
     let noted : c.deref.result.now ≡ first_frames fs = c.deref.ensures.value ∙ c.note_frames.ensures in
     record {
       same = all_same c' marks old fs cs c.write_fronts.new.folios c.write_chain.new.folios c.deref.result.now c.len.result c.first_number-chunk.result.0 c.requires.room c.requires.marks
-          c.split_at_mut-fronts.ensures.front c.split_at_mut-fronts.ensures.back mid noted c.first_number-chunk.ensures c.write_fronts.ensures c.write_chain.ensures.members
-          c.write_chain.ensures.same c.write_chain.auto.folios c.write_chain.ensures.written;
+          c.split_at_mut-fronts.ensures.front c.split_at_mut-fronts.ensures.back mid noted c.first_number-chunk.ensures c.write_fronts.ensures.pages c.write_chain.ensures.members
+          c.write_chain.ensures.same c.write_chain.auto.folios c.write_fronts.ensures.fits c.have_bytes.ensures c.write_chain.ensures.written;
       carries = c.law_of_written_folios.ensures c' marks old c.write_fronts.new.folios c.write_chain.new.folios c.requires.room c.requires.marks
           (are_written c' marks old fs cs c.write_fronts.new.folios c.write_chain.new.folios c.deref.result.now c.len.result c.first_number-chunk.result.0 c.requires.room c.requires.marks
-          c.split_at_mut-fronts.ensures.front c.split_at_mut-fronts.ensures.back mid noted c.first_number-chunk.ensures c.write_fronts.ensures c.write_chain.ensures.members
-          c.write_chain.ensures.same c.write_chain.auto.folios c.write_chain.ensures.written);
+          c.split_at_mut-fronts.ensures.front c.split_at_mut-fronts.ensures.back mid noted c.first_number-chunk.ensures c.write_fronts.ensures.pages c.write_chain.ensures.members
+          c.write_chain.ensures.same c.write_chain.auto.folios c.write_fronts.ensures.fits c.have_bytes.ensures c.write_chain.ensures.written);
     }
