@@ -80,7 +80,7 @@ pub fn write_entry(
 )
     requires { folio.old.order.0 ≡ 0 }
     ensures blob { folio.new ≡ holding folio.old (spelling (handover_tree version_1 shape.now chunk.0 (luo_with number header bounds.now))) }
-    ensures within { length (entry_bytes shape.now number chunk header bounds.now) ≤ PAGE_BYTES }
+    ensures within { length (entry_bytes shape.now number chunk header bounds.now) ≤ 457 }
 {
     clear(folio);
     let areas = shape.scratch();

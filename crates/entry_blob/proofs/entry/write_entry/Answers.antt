@@ -46,4 +46,4 @@ returns-clause-blob c =
 
 pub returns-clause-within : goal.returns-clause-within
 returns-clause-within c =
-    subst (λ (bytes : List ℕ). length bytes ≤ 4096) (spelled c) (let w = whole c in omega (arith, w.end_is, w.room))
+    subst (λ (bytes : List ℕ). length bytes ≤ 457) (spelled c) (omega (arith, (whole c).end_is, c.put_names.ensures.within, c.put_structure-strings.ensures.within))
