@@ -1,5 +1,5 @@
 -- The four bound records, one after another.
-use Rattle.std.proofs.Common.{◌≡◌, ℕ, ◌+◌, ◌*◌, List, [], ◌∷◌, ◌++◌, length, map, get_or, Option, Some, None, refl, sym, ap, subst, ◌∙◌, arith}
+use Rattle.std.proofs.Common.{◌≡◌, ℕ, ◌+◌, ◌*◌, List, [], ◌∷◌, length, map, get_or, Option, None, refl, subst, arith}
 use Rattle.ho_base.specs.declared.numbers.Pfn.{Pfn}
 use Rattle.phys_frames.specs.Memory.{FolioValue}
 use Rattle.entry_blob.specs.Entry.{number_at}

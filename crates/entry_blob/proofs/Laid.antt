@@ -6,7 +6,6 @@ use Rattle.fdt_blob.specs.Trees.{Tree}
 use Rattle.fdt_blob.specs.Tokens.{word, end_bytes}
 use Rattle.fdt_blob.specs.Spelling.{spelling, assembled, structure_of, strings_of, used_names}
 use Rattle.record_frames.specs.Rules.{version_1}
-use Rattle.record_frames.specs.Handover.{Luo}
 use Rattle.kho_laws.specs.Tree.{handover_tree}
 use Rattle.entry_blob.specs.Layout.{root_part, luo_part, bounds_part, structure_part, strings_part, front_part}
 

@@ -2,7 +2,7 @@
 use Rattle.std.proofs.Common.{◌≡◌, ℕ, ◌+◌, ◌≤◌, List, [], ◌++◌, length, replicate, refl, sym, ap, subst, ◌∙◌, arith}
 use Rattle.std.proofs.lemmas.List.{length-append}
 use Rattle.phys_frames.specs.Memory.{FolioValue, with_bytes, written}
-use Rattle.record_frames.specs.Writing.{framed, holding}
+use Rattle.record_frames.specs.Writing.{holding}
 use Rattle.record_frames.proofs.WrittenBytes.{behind, length_written, written_none, framed_more, framed_none}
 use Rattle.entry_blob.specs.Layout.{patched, Puts}
 

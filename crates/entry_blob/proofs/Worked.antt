@@ -1,5 +1,5 @@
 -- The blobs of two worked trees, from the definitions.
-use Rattle.std.proofs.Common.{◌≡◌, ℕ, List, [], ◌∷◌, Option, Some, None, refl}
+use Rattle.std.proofs.Common.{◌≡◌, ℕ, List, [], ◌∷◌, Some, None, refl}
 use Rattle.ho_base.specs.ShapeRule.{Layout}
 use Rattle.ho_base.specs.declared.shape.Area.{Area}
 use Rattle.ho_base.specs.declared.numbers.Pfn.{Pfn}

@@ -105,6 +105,7 @@ pub(crate) fn put_names(folio: &mut Folio, at: usize, bounds: &[Option<Pfn>; 4])
     requires room { at + 117 ≤ PAGE_BYTES }
     ensures put { Puts folio.old at (strings_part (map number_at bounds.now)) folio.new result }
     ensures end { result ≡ at + 73 + 11 * ones (map number_at bounds.now) }
+    ensures within { result ≤ at + 117 }
 {
     let [dev0, dev1, dev2, dev3] = *bounds;
     let base = put(folio, at, FIXED_NAMES);

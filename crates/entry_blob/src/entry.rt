@@ -6,7 +6,7 @@ ghost use Rattle.fdt_blob.specs.Spelling.{spelling};
 ghost use Rattle.record_frames.specs.Rules.{version_1};
 ghost use Rattle.record_frames.specs.Writing.{holding};
 ghost use Rattle.kho_laws.specs.Tree.{handover_tree};
-ghost use Rattle.entry_blob.specs.Entry.{luo_with, number_at};
+ghost use Rattle.entry_blob.specs.Entry.{entry_bytes, luo_with, number_at};
 ghost use Rattle.entry_blob.specs.Layout.{Puts, ones, structure_part};
 
 use crate::bounds::{count_bounds, put_bounds, put_names};
@@ -64,10 +64,12 @@ fn clear(folio: &mut Folio)
     folio.zero();
 }
 
-/// Writes the entry frame: the blob of the handover tree in its one spelling, and zeros behind it. The tree says the
-/// machine's scratch areas, the first chunk frame, the update number, the session frame, and for each kind in order the
-/// frame of its bound record, if there is one. Frame, order and home of the folio stay. It takes no memory, and costs
-/// the bytes of the folio.
+/// Writes the entry frame: the blob of the handover tree in its one spelling, which has at most 457 bytes, and zeros
+/// behind it.
+///
+/// The tree says the scratch areas of `shape`, the first chunk frame `chunk`, the update number, of which a reader takes 1
+/// and more, the session frame `header`, and for each of the four device kinds in order the frame of its bound record, if
+/// there is one. Frame, order and home of the folio stay. It takes no memory, and costs the bytes of the folio.
 pub fn write_entry(
     folio: &mut Folio,
     shape: &Shape,
@@ -78,7 +80,7 @@ pub fn write_entry(
 )
     requires { folio.old.order.0 ≡ 0 }
     ensures blob { folio.new ≡ holding folio.old (spelling (handover_tree version_1 shape.now chunk.0 (luo_with number header bounds.now))) }
-    ensures within { length (spelling (handover_tree version_1 shape.now chunk.0 (luo_with number header bounds.now))) ≤ PAGE_BYTES }
+    ensures within { length (entry_bytes shape.now number chunk header bounds.now) ≤ 457 }
 {
     clear(folio);
     let areas = shape.scratch();

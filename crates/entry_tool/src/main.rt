@@ -2,7 +2,7 @@
 //! bytes each has, how many bytes behind it aren't zero, and its bytes in hexadecimal.
 #![tactic(auto)]
 
-ghost use Rattle.std.specs.Prelude.{◌≤◌, length};
+ghost use Rattle.std.specs.Prelude.{◌≤◌};
 ghost use Rattle.ho_base.specs.declared.limits.TheConstants.{MAX_FRAMES, MIN_FRAMES};
 
 use entry_blob::write_entry;

@@ -1,7 +1,6 @@
-use Rattle.std.proofs.Common.{ℕ, ◌+◌, ◌*◌, List, [], ◌∷◌, get_or, Option, None, ap}
-use Rattle.ho_base.specs.declared.numbers.Pfn.{Pfn}
+use Rattle.std.proofs.Common.{ℕ, ◌+◌, ◌*◌, [], ◌∷◌, get_or, Option, None, ap}
 use Rattle.entry_blob.specs.Entry.{number_at}
-use Rattle.entry_blob.specs.Layout.{Puts, bounds_part}
+use Rattle.entry_blob.specs.Layout.{bounds_part}
 use Rattle.entry_blob.proofs.Steps.{puts_none, puts_same}
 use Rattle.entry_blob.proofs.FourBounds.{four, four_are, one_bound, at_base}
 use Rattle.entry_blob.proofs.bounds.put_bounds.Goals as goal

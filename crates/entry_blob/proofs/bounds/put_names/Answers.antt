@@ -1,8 +1,7 @@
-use Rattle.std.proofs.Common.{ℕ, ◌+◌, ◌*◌, List, [], ◌∷◌, ◌++◌, get_or, Option, None, ap}
+use Rattle.std.proofs.Common.{ℕ, ◌+◌, ◌*◌, [], ◌∷◌, ◌++◌, get_or, Option, None, ap}
 use Rattle.std.specs.Prelude.{codes}
 use Rattle.fdt_blob.specs.Spelling.{strings_of}
 use Rattle.record_frames.specs.Handover.{BOUND_NAMES}
-use Rattle.ho_base.specs.declared.numbers.Pfn.{Pfn}
 use Rattle.entry_blob.specs.Entry.{number_at}
 use Rattle.entry_blob.specs.Layout.{FIXED_NAMES, if_given, names_part, strings_part}
 use Rattle.entry_blob.proofs.Steps.{then_puts, puts_none, puts_same}

@@ -1,8 +1,8 @@
-use Rattle.std.proofs.Common.{◌≡◌, ◌≤◌, ℕ, List, [], ◌++◌, length, map, sym, ap, subst, ◌∙◌, arith}
+use Rattle.std.proofs.Common.{◌≡◌, ◌≤◌, ℕ, List, ◌++◌, length, map, ap, subst, ◌∙◌, arith}
 use Rattle.std.proofs.lemmas.List.{length-map}
 use Rattle.ho_base.specs.declared.shape.Area.{Area}
 use Rattle.record_frames.specs.Writing.{holding}
-use Rattle.entry_blob.specs.Entry.{number_at, luo_with, entry_bytes}
+use Rattle.entry_blob.specs.Entry.{number_at, entry_bytes}
 use Rattle.entry_blob.specs.Layout.{Puts, front_part, structure_part, strings_part}
 use Rattle.entry_blob.proofs.Steps.{then_puts, puts_at, puts_all}
 use Rattle.entry_blob.proofs.Laid.{entry_is}
@@ -46,4 +46,4 @@ returns-clause-blob c =
 
 pub returns-clause-within : goal.returns-clause-within
 returns-clause-within c =
-    subst (λ (bytes : List ℕ). length bytes ≤ 4096) (spelled c) (let w = whole c in omega (arith, w.end_is, w.room))
+    subst (λ (bytes : List ℕ). length bytes ≤ 457) (spelled c) (omega (arith, (whole c).end_is, c.put_names.ensures.within, c.put_structure-strings.ensures.within))

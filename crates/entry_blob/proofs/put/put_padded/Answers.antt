@@ -1,4 +1,4 @@
-use Rattle.std.proofs.Common.{ℕ, replicate, length, take, arith}
+use Rattle.std.proofs.Common.{replicate, length, take, arith}
 use Rattle.fdt_blob.specs.Tokens.{padding}
 use Rattle.record_frames.proofs.WrittenBytes.{zeros_taken}
 use Rattle.entry_blob.proofs.Steps.{then_puts, puts_same}

@@ -1,4 +1,4 @@
-use Rattle.std.proofs.Common.{ℕ, ◌+◌, List, take, get_or, sym, ap, arith}
+use Rattle.std.proofs.Common.{◌+◌, take, get_or, sym, ap, arith}
 use Rattle.std.proofs.lemmas.List.{take_all}
 use Rattle.std.specs.List.{flat_map}
 use Rattle.ho_base.specs.declared.shape.Area.{Area}
