@@ -1,0 +1,75 @@
+//! Which runs that hold a frame are marked.
+
+ghost use Rattle.std.specs.Prelude.{◌≡◌, ◌<◌, ◌≤◌, ◌^◌};
+ghost use Rattle.std.specs.List.{list_any};
+ghost use Rattle.ho_base.specs.BitmapCount.{cover as cover_rule};
+ghost use Rattle.ho_base.specs.declared.limits.TheConstants.{MAX_ORDER};
+ghost use Rattle.folio_bitmaps.specs.Bitmaps.{is_set as set_rule};
+ghost use Rattle.record_frames.specs.Sheets.{items_of};
+ghost use Rattle.record_frames.specs.Rules.{marks as marks_rule, is_marked as marked_rule};
+ghost use Rattle.chunk_frames.specs.Chunks.{element_view, chunk_view, chunk_views};
+ghost use Rattle.kho_owners.specs.Owner.{marked_owner as owner_rule};
+
+use crate::owner::{Owner, join};
+use chunk_frames::{ChunkSheet, ElementRead};
+
+/// How many orders there are.
+const ORDERS: u8 = 10;
+
+/// Whether bit `k` is set; bits behind the bytes aren't.
+fn is_set(bits: &[u8], k: u64) -> bool
+    requires { k < 2 ^ 63 }
+    ensures { result ≡ set_rule bits.now k }
+{
+    match bits.get((k / 8) as usize) {
+        Some(byte) => (byte >> (k % 8)) & 1 == 1,
+        None => false,
+    }
+}
+
+/// Whether the element marks the run of this order that begins at `first`.
+fn marks(element: &ElementRead, first: u32, order: u8) -> bool
+    requires { order ≤ MAX_ORDER }
+    ensures { result ≡ marks_rule (record { first = first; order = order }) (element_view element.now) }
+{
+    let first = u64::from(first);
+    let size = 1u64 << order;
+    element.order == u64::from(order)
+        && element.base <= first
+        && first - element.base < 4096 * size
+        && (first - element.base) % size == 0
+        && is_set(&element.bits, (first - element.base) / size)
+}
+
+/// Whether one of a chunk frame's elements marks the run.
+fn is_marked_in(chunk: &ChunkSheet, first: u32, order: u8) -> bool
+    requires { order ≤ MAX_ORDER }
+    ensures { result ≡ marked_rule (chunk_view chunk.now).items (record { first = first; order = order }) }
+{
+    chunk
+        .items
+        .iter()
+        .any(|element| marks(element, first, order))
+}
+
+/// Whether the run is marked in the chain.
+fn is_marked(chunks: &[ChunkSheet], first: u32, order: u8) -> bool
+    requires { order ≤ MAX_ORDER }
+    ensures { result ≡ marked_rule (items_of (chunk_views chunks.now)) (record { first = first; order = order }) }
+{
+    chunks.iter().any(|chunk| is_marked_in(chunk, first, order))
+}
+
+/// Which of the ten runs that may hold frame `p` are marked: none, one, or more than one.
+pub(crate) fn marked_owner(chunks: &[ChunkSheet], p: u32) -> Owner
+    ensures { result ≡ owner_rule (items_of (chunk_views chunks.now)) p }
+{
+    let mut marked = Owner::Nobody;
+    for order in 0..ORDERS {
+        let first = p - p % (1 << order);
+        if is_marked(chunks, first, order) {
+            marked = join(marked, Owner::Run { first, order });
+        }
+    }
+    marked
+}
