@@ -1,0 +1,4 @@
+mod Found
+mod Marks
+mod Rule
+mod Tables

@@ -1,5 +1,5 @@
 -- Who uses a frame, as the program keeps it: nobody, one user, or more than one.
-use Rattle.std.specs.Prelude.{ℕ, zero, suc, ◌+◌, ◌-◌, ◌%◌, ◌^◌, Bool, true, false, not, ◌&&◌, ◌==◌, nat_lt, nat_le, if◌then◌else◌, List, [], ◌∷◌, map, filter, length, get_or}
+use Rattle.std.specs.Prelude.{ℕ, zero, suc, ◌+◌, ◌-◌, ◌%◌, ◌^◌, Bool, true, false, not, ◌&&◌, ◌==◌, nat_lt, nat_le, nat_eq, if◌then◌else◌, List, [], ◌∷◌, map, filter, length, get_or}
 use Rattle.std.specs.List.{range_with_len}
 use Rattle.ho_base.specs.declared.shape.Area.{Area}
 use Rattle.folio_bitmaps.specs.Runs.{Run}
@@ -25,24 +25,26 @@ owner_in owners p = get_or owners p Nobody
 unfoldable pub with_range : ℕ → ℕ → Owner → ℕ → Owner → Owner
 with_range first end more p now = if nat_le first p && nat_lt p end then joined now more else now
 
--- who uses frame p, when the frames of these runs get one user more
-abbrev pub with_users : List UsedRun → ℕ → Owner → Owner
-with_users [] p now = now
-with_users (u ∷ us) p now = with_users us p (with_range u.first.0 (u.first.0 + 2 ^ u.order) (One u.first.0 u.order) p now)
+-- the same for the frames of a run that has to be marked
+abbrev pub with_user : UsedRun → ℕ → Owner → Owner
+with_user u p now = with_range u.first.0 (u.first.0 + 2 ^ u.order) (One u.first.0 u.order) p now
 
--- the same for scratch areas
-abbrev pub with_areas : List Area → ℕ → Owner → Owner
-with_areas [] p now = now
-with_areas (a ∷ areas) p now = with_areas areas p (with_range a.first.0 (a.first.0 + a.count) Unmarked p now)
+-- the same for those of a scratch area
+abbrev pub with_area : Area → ℕ → Owner → Owner
+with_area a p now = with_range a.first.0 (a.first.0 + a.count) Unmarked p now
 
--- the same for chunk frames
-abbrev pub with_chunks : List ChunkSheet → ℕ → Owner → Owner
-with_chunks [] p now = now
-with_chunks (c ∷ chunks) p now = with_chunks chunks p (with_range c.at (c.at + 1) Unmarked p now)
+-- the same for a chunk frame
+abbrev pub with_chunk : ChunkSheet → ℕ → Owner → Owner
+with_chunk c p now = if nat_eq p c.at then joined now Unmarked else now
 
--- who uses frame p, of these users, scratch areas and chunk frames
-abbrev pub owner_at : List UsedRun → List Area → List ChunkSheet → ℕ → Owner
-owner_at users areas chunks p = with_chunks chunks p (with_areas areas p (with_users users p Nobody))
+-- the same for all of a list
+abbrev pub with_each : {A : Type 0} → (A → ℕ → Owner → Owner) → List A → ℕ → Owner → Owner
+with_each more [] p now = now
+with_each more (x ∷ xs) p now = with_each more xs p (more x p now)
+
+-- who uses frame p, of these runs, scratch areas and chunk frames
+unfoldable pub owner_at : List UsedRun → List Area → List ChunkSheet → ℕ → Owner
+owner_at users areas chunks p = with_each with_chunk chunks p (with_each with_area areas p (with_each with_user users p Nobody))
 
 -- what the program keeps of the runs that use a frame, and of how many other users it has
 abbrev pub owner_of : List Run → ℕ → Owner
@@ -65,5 +67,5 @@ marked_owner elements p = owner_of (marked_below elements p 10) 0
 abbrev pub is_right : ℕ → Owner → Owner → Bool
 is_right p Nobody Nobody = true
 is_right p Unmarked Nobody = not (p == 0)
-is_right p (One first order) (One begin size) = not (p == 0) && first == begin && order == size
+is_right p (One first order) (One begin size) = not (p == 0) && begin == first && size == order
 is_right p owner runs = false

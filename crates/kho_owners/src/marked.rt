@@ -1,14 +1,15 @@
 //! Which runs that hold a frame are marked.
 
-ghost use Rattle.std.specs.Prelude.{◌≡◌, ◌<◌, ◌≤◌, ◌^◌};
+ghost use Rattle.std.specs.Prelude.{◌≡◌, ◌-◌, ◌%◌, ◌<◌, ◌≤◌, ◌^◌, if◌then◌else◌};
 ghost use Rattle.std.specs.List.{list_any};
 ghost use Rattle.ho_base.specs.BitmapCount.{cover as cover_rule};
 ghost use Rattle.ho_base.specs.declared.limits.TheConstants.{MAX_ORDER};
 ghost use Rattle.folio_bitmaps.specs.Bitmaps.{is_set as set_rule};
 ghost use Rattle.record_frames.specs.Sheets.{items_of};
 ghost use Rattle.record_frames.specs.Rules.{marks as marks_rule, is_marked as marked_rule};
-ghost use Rattle.chunk_frames.specs.Chunks.{element_view, chunk_view, chunk_views};
-ghost use Rattle.kho_owners.specs.Owner.{marked_owner as owner_rule};
+ghost use Rattle.chunk_frames.specs.Chunks.{element_view, chunk_views};
+ghost use Rattle.kho_owners.specs.declared.owner.Owner.TheVariants.{Run as One};
+ghost use Rattle.kho_owners.specs.Owner.{joined, marked_owner as owner_rule};
 
 use crate::owner::{Owner, join};
 use chunk_frames::{ChunkSheet, ElementRead};
@@ -44,7 +45,7 @@ fn marks(element: &ElementRead, first: u32, order: u8) -> bool
 /// Whether one of a chunk frame's elements marks the run.
 fn is_marked_in(chunk: &ChunkSheet, first: u32, order: u8) -> bool
     requires { order ≤ MAX_ORDER }
-    ensures { result ≡ marked_rule (chunk_view chunk.now).items (record { first = first; order = order }) }
+    ensures { result ≡ list_any (λ e. marks_rule (record { first = first; order = order }) (element_view e)) chunk.now.items.items }
 {
     chunk
         .items
@@ -55,9 +56,25 @@ fn is_marked_in(chunk: &ChunkSheet, first: u32, order: u8) -> bool
 /// Whether the run is marked in the chain.
 fn is_marked(chunks: &[ChunkSheet], first: u32, order: u8) -> bool
     requires { order ≤ MAX_ORDER }
-    ensures { result ≡ marked_rule (items_of (chunk_views chunks.now)) (record { first = first; order = order }) }
+    ensures { result ≡ list_any (λ c. list_any (λ e. marks_rule (record { first = first; order = order }) (element_view e)) c.items.items) chunks.now }
 {
-    chunks.iter().any(|chunk| is_marked_in(chunk, first, order))
+    chunks
+        .iter()
+        .any(|chunk| is_marked_in(chunk, first, order))
+}
+
+/// Which runs are marked, with the run of this order that may hold frame `p`.
+#[tactic(auto, using(crate::proofs::Marks::any_in_sheets))]
+fn with_order(chunks: &[ChunkSheet], p: u32, order: u8, marked: Owner) -> Owner
+    requires { order ≤ MAX_ORDER }
+    ensures { result ≡ (if marked_rule (items_of (chunk_views chunks.now)) (record { first = p - p % 2 ^ order; order = order }) then joined marked (One (p - p % 2 ^ order) order) else marked) }
+{
+    let first = p - p % (1 << order);
+    if is_marked(chunks, first, order) {
+        join(marked, Owner::Run { first, order })
+    } else {
+        marked
+    }
 }
 
 /// Which of the ten runs that may hold frame `p` are marked: none, one, or more than one.
@@ -66,10 +83,7 @@ pub(crate) fn marked_owner(chunks: &[ChunkSheet], p: u32) -> Owner
 {
     let mut marked = Owner::Nobody;
     for order in 0..ORDERS {
-        let first = p - p % (1 << order);
-        if is_marked(chunks, first, order) {
-            marked = join(marked, Owner::Run { first, order });
-        }
+        marked = with_order(chunks, p, order, marked);
     }
     marked
 }

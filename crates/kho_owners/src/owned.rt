@@ -35,7 +35,7 @@ fn is_right(p: u32, owner: Owner, marked: Owner) -> bool
                 first: marked_first,
                 order: marked_order,
             },
-        ) => p != 0 && first == marked_first && order == marked_order,
+        ) => p != 0 && marked_first == first && marked_order == order,
         _ => false,
     }
 }
