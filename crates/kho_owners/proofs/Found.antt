@@ -63,11 +63,11 @@ module _ (k : Kept) (shape : Layout) (us : List UsedRun) (chunks : List ChunkShe
       sym (ill_some k 0 n i (λ p below. well_at k shape us chunks is_shape is_chain is_users p ∙ h.each p below) (well_at k shape us chunks is_shape is_chain is_users i ∙ ill) (omega arith) (omega arith))
 
 -- what the program finds of a frame
-pub right_is : (us : List UsedRun) (areas : List Area) (chunks : List ChunkSheet) (p : ℕ) (owner marked : Owner) (b c : Bool) → owner ≡ owner_at us areas chunks p
-    → marked ≡ marked_owner (items_of (chunk_views chunks)) p → b ≡ is_right p owner marked → b ≡ c → right_at us areas chunks p ≡ c
+pub right_is : (us : List UsedRun) (areas : List Area) (chunks : List ChunkSheet) (p : ℕ) (owner runs : Owner) (b c : Bool) → owner ≡ owner_at us areas chunks p
+    → runs ≡ marked_owner (items_of (chunk_views chunks)) p → b ≡ is_right p owner runs → b ≡ c → right_at us areas chunks p ≡ c
 unfolding right_at
-right_is us areas chunks p owner marked b c is_owner is_marked is_b is_c =
-    ap (λ (o : Owner). is_right p o (marked_owner (items_of (chunk_views chunks)) p)) (sym is_owner) ∙ ap (λ (o : Owner). is_right p owner o) (sym is_marked) ∙ sym is_b ∙ is_c
+right_is us areas chunks p owner runs b c is_owner is_runs is_b is_c =
+    ap (λ (o : Owner). is_right p o (marked_owner (items_of (chunk_views chunks)) p)) (sym is_owner) ∙ ap (λ (o : Owner). is_right p owner o) (sym is_runs) ∙ sym is_b ∙ is_c
 
 -- no frame, and one frame more
 pub right_none : (us : List UsedRun) (areas : List Area) (chunks : List ChunkSheet) → AreRight us areas chunks 0

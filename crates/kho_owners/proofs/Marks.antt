@@ -6,7 +6,7 @@ use Rattle.std.proofs.lemmas.List.Folds.{list_any-append}
 use Rattle.std.proofs.lemmas.List.FromFn.{filter_of_map_range_with_len_more}
 use Rattle.folio_bitmaps.specs.Runs.{Run}
 use Rattle.folio_bitmaps.specs.Chunks.{Element}
-use Rattle.record_frames.specs.Rules.{is_marked}
+use Rattle.record_frames.specs.Rules.{is_marked, marks}
 use Rattle.record_frames.specs.Sheets.{Sheet, items_of}
 use Rattle.chunk_frames.specs.declared.sheet.ElementRead.{ElementRead}
 use Rattle.chunk_frames.specs.declared.sheet.ChunkSheet.{ChunkSheet}
@@ -28,19 +28,26 @@ any_in_sheets p (c ∷ chunks) =
     ∙ ap (λ (b : Bool). b || list_any p (items_of (chunk_views chunks))) (any_map p element_view c.items.items)
     ∙ ap (λ (b : Bool). list_any (λ e. p (element_view e)) c.items.items || b) (any_in_sheets p chunks)
 
+-- what the program finds of a run
+pub marked_is : (chunks : List ChunkSheet) (r : Run) (b c : Bool) → b ≡ list_any (λ s. list_any (λ e. marks r (element_view e)) s.items.items) chunks → b ≡ c
+    → is_marked (items_of (chunk_views chunks)) r ≡ c
+marked_is chunks r b c is_b is_c = any_in_sheets (marks r) chunks ∙ sym is_b ∙ is_c
+
 -- the marked runs below the next order
-pub marked_more : (elements : List Element) (p n : ℕ) (now after : Owner) → now ≡ owner_of (marked_below elements p n) 0
-    → after ≡ cond (is_marked elements (record { first = p - p % 2 ^ n; order = n })) (joined now (One (p - p % 2 ^ n) n)) now
+pub marked_more : (elements : List Element) (p n first : ℕ) (now after : Owner) → now ≡ owner_of (marked_below elements p n) 0 → first ≡ p - p % 2 ^ n
+    → after ≡ cond (is_marked elements (record { first = first; order = n })) (joined now (One first n)) now
     → after ≡ owner_of (marked_below elements p (n + 1)) 0
 unfolding marked_below
-marked_more elements p n now after h e =
+marked_more elements p n first now after h at e =
     let run : ℕ → Run = λ o. record { first = p - p % 2 ^ o; order = o } in
     let below = filter (is_marked elements) (map run (range_with_len 0 n)) in
     let more : filter (is_marked elements) (map run (range_with_len 0 (n + 1))) ≡ below ++ cond (is_marked elements (run n)) (run n ∷ []) [] =
     filter_of_map_range_with_len_more (is_marked elements) run 0 n n (omega arith) in
     let step : (b : Bool) → cond b (joined (owner_of below 0) (One (run n).first n)) (owner_of below 0) ≡ owner_of (below ++ cond b (run n ∷ []) []) 0 =
     λ b. elim b as (λ b. cond b (joined (owner_of below 0) (One (run n).first n)) (owner_of below 0) ≡ owner_of (below ++ cond b (run n ∷ []) []) 0) [
-      true ↦ joined_one below 0 (run n)
-    | false ↦ ap (λ (rs : List Run). owner_of rs 0) (sym (append-nil below))
+      | true ↦ joined_one below 0 (run n)
+      | false ↦ ap (λ (rs : List Run). owner_of rs 0) (sym (append-nil below))
     ] in
-    e ∙ ap (λ (o : Owner). cond (is_marked elements (run n)) (joined o (One (run n).first n)) o) h ∙ step (is_marked elements (run n)) ∙ ap (λ (rs : List Run). owner_of rs 0) (sym more)
+    e ∙ ap (λ (q : ℕ). cond (is_marked elements (record { first = q; order = n })) (joined now (One q n)) now) at
+    ∙ ap (λ (o : Owner). cond (is_marked elements (run n)) (joined o (One (run n).first n)) o) h ∙ step (is_marked elements (run n))
+    ∙ ap (λ (rs : List Run). owner_of rs 0) (sym more)

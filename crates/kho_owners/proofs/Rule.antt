@@ -45,10 +45,10 @@ users_kept (u ∷ us) p runs =
     let rest = filter (run_holds p) (map run_view us) in
     let step : (b : Bool) → with_each with_user us p (cond b (joined (owner_of runs 0) (One r.first r.order)) (owner_of runs 0)) ≡ owner_of (runs ++ cond b (r ∷ rest) rest) 0 =
     λ b. elim b as (λ b. with_each with_user us p (cond b (joined (owner_of runs 0) (One r.first r.order)) (owner_of runs 0)) ≡ owner_of (runs ++ cond b (r ∷ rest) rest) 0) [
-      true ↦
-        ap (λ (o : Owner). with_each with_user us p o) (joined_one runs 0 r) ∙ users_kept us p (runs ++ r ∷ [])
-        ∙ ap (λ (rs : List Run). owner_of rs 0) (append_assoc runs (r ∷ []) rest)
-    | false ↦ users_kept us p runs
+      | true ↦
+          ap (λ (o : Owner). with_each with_user us p o) (joined_one runs 0 r) ∙ users_kept us p (runs ++ r ∷ [])
+          ∙ ap (λ (rs : List Run). owner_of rs 0) (append_assoc runs (r ∷ []) rest)
+      | false ↦ users_kept us p runs
     ] in
     ap (λ (o : Owner). with_each with_user us p o) (range_is u.first.0 (u.first.0 + 2 ^ u.order) (One u.first.0 u.order) p (owner_of runs 0)) ∙ step (run_holds p r)
 
@@ -59,8 +59,8 @@ areas_kept (a ∷ areas) p runs n =
     let rest = filter (holds p) areas in
     let step : (b : Bool) → with_each with_area areas p (cond b (joined (owner_of runs n) Unmarked) (owner_of runs n)) ≡ owner_of runs (n + length (cond b (a ∷ rest) rest)) =
     λ b. elim b as (λ b. with_each with_area areas p (cond b (joined (owner_of runs n) Unmarked) (owner_of runs n)) ≡ owner_of runs (n + length (cond b (a ∷ rest) rest))) [
-      true ↦ ap (λ (o : Owner). with_each with_area areas p o) (joined_unmarked runs n) ∙ areas_kept areas p runs (suc n) ∙ ap (owner_of runs) (omega arith)
-    | false ↦ areas_kept areas p runs n
+      | true ↦ ap (λ (o : Owner). with_each with_area areas p o) (joined_unmarked runs n) ∙ areas_kept areas p runs (suc n) ∙ ap (owner_of runs) (omega arith)
+      | false ↦ areas_kept areas p runs n
     ] in
     ap (λ (o : Owner). with_each with_area areas p o) (range_is a.first.0 (a.first.0 + a.count) Unmarked p (owner_of runs n)) ∙ step (holds p a)
 
@@ -72,15 +72,15 @@ chunks_kept (c ∷ chunks) p runs n =
     let rest = filter (nat_eq p) (numbers_of (chunk_views chunks)) in
     let step : (b : Bool) → with_each with_chunk chunks p (cond b (joined (owner_of runs n) Unmarked) (owner_of runs n)) ≡ owner_of runs (n + length (cond b (c.at ∷ rest) rest)) =
     λ b. elim b as (λ b. with_each with_chunk chunks p (cond b (joined (owner_of runs n) Unmarked) (owner_of runs n)) ≡ owner_of runs (n + length (cond b (c.at ∷ rest) rest))) [
-      true ↦ ap (λ (o : Owner). with_each with_chunk chunks p o) (joined_unmarked runs n) ∙ chunks_kept chunks p runs (suc n) ∙ ap (owner_of runs) (omega arith)
-    | false ↦ chunks_kept chunks p runs n
+      | true ↦ ap (λ (o : Owner). with_each with_chunk chunks p o) (joined_unmarked runs n) ∙ chunks_kept chunks p runs (suc n) ∙ ap (owner_of runs) (omega arith)
+      | false ↦ chunks_kept chunks p runs n
     ] in
     step (nat_eq p c.at)
 
 -- what the table says of a frame
 pub owner_is : (us : List UsedRun) (areas : List Area) (chunks : List ChunkSheet) (p : ℕ)
     → owner_at us areas chunks p
-        ≡ owner_of (filter (run_holds p) (map run_view us)) (length (filter (holds p) areas) + length (filter (nat_eq p) (numbers_of (chunk_views chunks))))
+    ≡ owner_of (filter (run_holds p) (map run_view us)) (length (filter (holds p) areas) + length (filter (nat_eq p) (numbers_of (chunk_views chunks))))
 unfolding owner_at
 owner_is us areas chunks p =
     let runs = filter (run_holds p) (map run_view us) in

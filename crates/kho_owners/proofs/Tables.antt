@@ -2,7 +2,7 @@
 use Rattle.std.proofs.Common.{◌≡◌, ◌≢◌, ℕ, suc, ◌+◌, ◌<◌, ◌≤◌, eqb, Bool, true, false, cond, List, [], ◌∷◌, length, get_or, set, drop, min, max, refl, sym, ap, subst, ◌∙◌, ⊎_elim, add-one, arith}
 use Rattle.std.specs.Prelude.{◌&&◌, nat_le, nat_lt, nat_eq}
 use Rattle.std.proofs.Math.Seq.{drop-cons}
-use Rattle.std.proofs.lemmas.List.{length-set, get_or-set_same, get_or-set_other, drop_all}
+use Rattle.std.proofs.lemmas.List.{length-set, get_or-set_same, get_or-set_other, get_or_default, drop_all}
 use Rattle.std.proofs.lemmas.Bool.Decides.{nat_tests, leb_tells, eqb_tells}
 use Rattle.chunk_frames.specs.declared.sheet.ChunkSheet.{ChunkSheet}
 use Rattle.kho_owners.specs.declared.owner.Owner.{Owner}
@@ -73,6 +73,10 @@ fill_all first end i more old now h e p lt =
     ⊎_elim (λ y. h.each p lt ∙ same_range first i end more p (owner_in old p) (λ a. omega (arith, a, e, y.1)) (λ a. omega (arith, a, e, y.1)))
     (λ n. h.each p lt ∙ with_test first i more p (owner_in old p) false (before first i p n.1) ∙ sym (with_test first end more p (owner_in old p) false (before first end p n.1)))
     (leb_tells first p)
+
+-- what is read of the table
+pub read_is : (owners : List Owner) (p : ℕ) (x o : Owner) → p < length owners → x ≡ get_or owners p x → owner_in owners p ≡ o → x ≡ o
+read_is owners p x o lt is_x is_o = is_x ∙ get_or_default owners p x Nobody lt ∙ is_o
 
 -- one chunk frame
 pub chunk_in : (chunk : ChunkSheet) (old new : List Owner) → chunk.at < length old → new ≡ set old chunk.at (joined (get_or old chunk.at Nobody) Unmarked) → (p : ℕ)

@@ -58,18 +58,23 @@ fn is_marked(chunks: &[ChunkSheet], first: u32, order: u8) -> bool
     requires { order ≤ MAX_ORDER }
     ensures { result ≡ list_any (λ c. list_any (λ e. marks_rule (record { first = first; order = order }) (element_view e)) c.items.items) chunks.now }
 {
-    chunks
-        .iter()
-        .any(|chunk| is_marked_in(chunk, first, order))
+    chunks.iter().any(|chunk| is_marked_in(chunk, first, order))
 }
 
-/// Which runs are marked, with the run of this order that may hold frame `p`.
-#[tactic(auto, using(crate::proofs::Marks::any_in_sheets))]
-fn with_order(chunks: &[ChunkSheet], p: u32, order: u8, marked: Owner) -> Owner
+/// The first frame of the run of this order that may hold frame `p`.
+fn first_at(p: u32, order: u8) -> u32
     requires { order ≤ MAX_ORDER }
-    ensures { result ≡ (if marked_rule (items_of (chunk_views chunks.now)) (record { first = p - p % 2 ^ order; order = order }) then joined marked (One (p - p % 2 ^ order) order) else marked) }
+    ensures { result ≡ p - p % 2 ^ order }
 {
-    let first = p - p % (1 << order);
+    let size = 1u32 << order;
+    p - p % size
+}
+
+/// Which runs are marked, with the run of this order at `first`, if it is.
+fn with_run(chunks: &[ChunkSheet], first: u32, order: u8, marked: Owner) -> Owner
+    requires { order ≤ MAX_ORDER }
+    ensures { result ≡ (if marked_rule (items_of (chunk_views chunks.now)) (record { first = first; order = order }) then joined marked (One first order) else marked) }
+{
     if is_marked(chunks, first, order) {
         join(marked, Owner::Run { first, order })
     } else {
@@ -83,7 +88,8 @@ pub(crate) fn marked_owner(chunks: &[ChunkSheet], p: u32) -> Owner
 {
     let mut marked = Owner::Nobody;
     for order in 0..ORDERS {
-        marked = with_order(chunks, p, order, marked);
+        let first = first_at(p, order);
+        marked = with_run(chunks, first, order, marked);
     }
     marked
 }

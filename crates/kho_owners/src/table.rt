@@ -51,7 +51,12 @@ fn add_area(owners: &mut [Owner], area: &Area)
     ensures { (p : ℕ) → p < length owners.old → owner_in owners.new p ≡ with_area area.now p (owner_in owners.old p) }
 {
     let first = u64::from(area.first.0);
-    add_range(owners, first, first + u64::from(area.count), Owner::Unmarked);
+    add_range(
+        owners,
+        first,
+        first + u64::from(area.count),
+        Owner::Unmarked,
+    );
 }
 
 /// Adds the scratch areas.

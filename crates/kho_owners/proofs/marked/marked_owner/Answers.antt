@@ -11,4 +11,5 @@ loop-order-init c = refl
 
 pub loop-order-preserved : goal.loop-order-preserved
 loop-order-preserved c =
-    marked_more (items_of (chunk_views c.args.chunks.now)) c.args.p c.loop-order.order c.loop-order.marked c.with_order-marked.result c.loop-order.invariant c.with_order-marked.ensures
+    marked_more (items_of (chunk_views c.args.chunks.now)) c.args.p c.loop-order.order c.first_at-first.result c.loop-order.marked c.with_run-marked.result c.loop-order.invariant
+    c.first_at-first.ensures c.with_run-marked.ensures
