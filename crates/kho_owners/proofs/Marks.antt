@@ -1,16 +1,15 @@
 -- The marked runs that hold a frame, order by order.
 use Rattle.std.proofs.Common.{◌≡◌, ℕ, ◌+◌, ◌-◌, ◌%◌, ◌^◌, Bool, true, false, cond, List, [], ◌∷◌, ◌++◌, map, refl, sym, ap, ◌∙◌, append-nil, arith}
 use Rattle.std.specs.Prelude.{◌||◌, filter}
-use Rattle.std.specs.List.{list_any, flat_map, range_with_len}
+use Rattle.std.specs.List.{list_any, range_with_len}
 use Rattle.std.proofs.lemmas.List.Folds.{list_any-append}
 use Rattle.std.proofs.lemmas.List.FromFn.{filter_of_map_range_with_len_more}
 use Rattle.folio_bitmaps.specs.Runs.{Run}
 use Rattle.folio_bitmaps.specs.Chunks.{Element}
 use Rattle.record_frames.specs.Rules.{is_marked, marks}
-use Rattle.record_frames.specs.Sheets.{Sheet, items_of}
-use Rattle.chunk_frames.specs.declared.sheet.ElementRead.{ElementRead}
+use Rattle.record_frames.specs.Sheets.{items_of}
 use Rattle.chunk_frames.specs.declared.sheet.ChunkSheet.{ChunkSheet}
-use Rattle.chunk_frames.specs.Chunks.{element_view, chunk_view, chunk_views}
+use Rattle.chunk_frames.specs.Chunks.{element_view, chunk_views}
 use Rattle.kho_owners.specs.declared.owner.Owner.{Owner}
 use Rattle.kho_owners.specs.declared.owner.Owner.TheVariants.{Run as One}
 use Rattle.kho_owners.specs.Owner.{joined, owner_of, marked_below}

@@ -11,7 +11,7 @@ use Rattle.chunk_frames.specs.declared.sheet.ChunkSheet.{ChunkSheet}
 use Rattle.chunk_frames.specs.Chunks.{chunk_views}
 use Rattle.kho_owners.specs.declared.owned.UsedRun.{UsedRun}
 use Rattle.kho_owners.specs.declared.owner.Owner.{Owner}
-use Rattle.kho_owners.specs.declared.owner.Owner.TheVariants.{Nobody, Run as One, Unmarked, Several}
+use Rattle.kho_owners.specs.declared.owner.Owner.TheVariants.{Run as One, Unmarked}
 use Rattle.kho_owners.specs.Owned.{run_view}
 use Rattle.kho_owners.specs.Owner.{joined, owner_of, owner_at, with_range, with_user, with_area, with_chunk, with_each, is_right}
 

@@ -1,5 +1,5 @@
 -- Who uses a frame, as the program keeps it: nobody, one user, or more than one.
-use Rattle.std.specs.Prelude.{ℕ, zero, suc, ◌+◌, ◌-◌, ◌%◌, ◌^◌, Bool, true, false, not, ◌&&◌, ◌==◌, nat_lt, nat_le, nat_eq, if◌then◌else◌, List, [], ◌∷◌, map, filter, length, get_or}
+use Rattle.std.specs.Prelude.{ℕ, zero, suc, ◌+◌, ◌-◌, ◌%◌, ◌^◌, Bool, true, false, not, ◌&&◌, ◌==◌, nat_lt, nat_le, nat_eq, if◌then◌else◌, List, [], ◌∷◌, map, filter, get_or}
 use Rattle.std.specs.List.{range_with_len}
 use Rattle.ho_base.specs.declared.shape.Area.{Area}
 use Rattle.folio_bitmaps.specs.Runs.{Run}

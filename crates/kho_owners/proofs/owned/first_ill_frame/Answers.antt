@@ -1,4 +1,4 @@
-use Rattle.std.proofs.Common.{sym, ◌∙◌, arith}
+use Rattle.std.proofs.Common.{arith}
 use Rattle.kho_owners.proofs.Found.{found_none, found_some, right_is, right_more}
 use Rattle.kho_owners.proofs.Tables.{read_is}
 use Rattle.kho_owners.proofs.owned.first_ill_frame.Goals as goal
