@@ -42,11 +42,13 @@ fn is_right(p: u32, owner: Owner, marked: Owner) -> bool
 
 /// The least of `count` frames that breaks the owners' rule; none where all keep it.
 ///
-/// A frame keeps the rule where it has at most one user, frame 0 none. A user is one of the runs in `users`, a scratch
-/// area or a chunk frame. The marked runs that hold the frame are just the one in `users` that holds it.
+/// A frame keeps the rule where it has at most one user, frame 0 none, and the marked runs that hold it are just the
+/// one in `users` that holds it. A frame's users are the runs in `users`, of order 0 to 9, the scratch areas and the
+/// chunk frames; what of them lies behind the last frame doesn't count.
 ///
-/// It takes time for the frames of all users, areas and chunks, and for each frame ten looks through the elements of
-/// the chain; memory for a few bytes a frame. `Err`: out of memory.
+/// It costs a step for each frame of each user, and for each frame of the machine ten looks through the elements of the
+/// chain, of which there are at most 14 where the chain keeps its rules; and memory for a few bytes a frame. `Err`: out
+/// of memory.
 pub fn first_ill_frame(
     alloc: Global,
     count: u32,

@@ -4,11 +4,11 @@ ghost use Rattle.std.specs.Prelude.{◌≡◌};
 ghost use Rattle.kho_owners.specs.Owner.{joined};
 
 /// Who uses a frame.
-#[derive(Clone, Copy, Debug)]
+#[derive(Clone, Copy)]
 pub(crate) enum Owner {
     /// Nobody.
     Nobody,
-    /// One run, which has to be marked.
+    /// One run, which has to be marked: its first frame and its order.
     Run { first: u32, order: u8 },
     /// One scratch area or one chunk frame, which must not be marked.
     Unmarked,
