@@ -1,3 +1,4 @@
+mod Flags
 mod Found
 mod Marks
 mod Rule

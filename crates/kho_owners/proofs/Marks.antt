@@ -6,13 +6,13 @@ use Rattle.std.proofs.lemmas.List.Folds.{list_any-append}
 use Rattle.std.proofs.lemmas.List.FromFn.{filter_of_map_range_with_len_more}
 use Rattle.folio_bitmaps.specs.Runs.{Run}
 use Rattle.folio_bitmaps.specs.Chunks.{Element}
-use Rattle.record_frames.specs.Rules.{is_marked, marks}
+use Rattle.record_frames.specs.Rules.{is_marked}
 use Rattle.record_frames.specs.Sheets.{items_of}
 use Rattle.chunk_frames.specs.declared.sheet.ChunkSheet.{ChunkSheet}
 use Rattle.chunk_frames.specs.Chunks.{element_view, chunk_views}
 use Rattle.kho_owners.specs.declared.owner.Owner.{Owner}
 use Rattle.kho_owners.specs.declared.owner.Owner.TheVariants.{Run as One}
-use Rattle.kho_owners.specs.Owner.{joined, owner_of, marked_below}
+use Rattle.kho_owners.specs.Owner.{holder, joined, owner_of, marked_below}
 use Rattle.kho_owners.proofs.Rule.{joined_one}
 
 any_map : {A B : Type 0} → (p : B → Bool) (f : A → B) (xs : List A) → list_any p (map f xs) ≡ list_any (λ x. p (f x)) xs
@@ -27,18 +27,13 @@ any_in_sheets p (c ∷ chunks) =
     ∙ ap (λ (b : Bool). b || list_any p (items_of (chunk_views chunks))) (any_map p element_view c.items.items)
     ∙ ap (λ (b : Bool). list_any (λ e. p (element_view e)) c.items.items || b) (any_in_sheets p chunks)
 
--- what the program finds of a run
-pub marked_is : (chunks : List ChunkSheet) (r : Run) (b c : Bool) → b ≡ list_any (λ s. list_any (λ e. marks r (element_view e)) s.items.items) chunks → b ≡ c
-    → is_marked (items_of (chunk_views chunks)) r ≡ c
-marked_is chunks r b c is_b is_c = any_in_sheets (marks r) chunks ∙ sym is_b ∙ is_c
-
 -- the marked runs below the next order
 pub marked_more : (elements : List Element) (p n first : ℕ) (now after : Owner) → now ≡ owner_of (marked_below elements p n) 0 → first ≡ p - p % 2 ^ n
     → after ≡ cond (is_marked elements (record { first = first; order = n })) (joined now (One first n)) now
     → after ≡ owner_of (marked_below elements p (n + 1)) 0
 unfolding marked_below
 marked_more elements p n first now after h at e =
-    let run : ℕ → Run = λ o. record { first = p - p % 2 ^ o; order = o } in
+    let run : ℕ → Run = holder p in
     let below = filter (is_marked elements) (map run (range_with_len 0 n)) in
     let more : filter (is_marked elements) (map run (range_with_len 0 (n + 1))) ≡ below ++ cond (is_marked elements (run n)) (run n ∷ []) [] =
     filter_of_map_range_with_len_more (is_marked elements) run 0 n n (omega arith) in

@@ -55,9 +55,17 @@ owner_of (r ∷ []) zero = One r.first r.order
 owner_of (r ∷ []) (suc n) = Several
 owner_of (r ∷ s ∷ runs) n = Several
 
+-- the run of an order that may hold frame p
+abbrev pub holder : ℕ → ℕ → Run
+holder p o = record { first = p - p % 2 ^ o; order = o }
+
+-- whether the flag of an order is set
+abbrev pub flag_in : List Bool → ℕ → Bool
+flag_in flags o = get_or flags o false
+
 -- the marked runs below an order that hold frame p
 unfoldable pub marked_below : List Element → ℕ → ℕ → List Run
-marked_below elements p n = filter (is_marked elements) (map (λ o. record { first = p - p % 2 ^ o; order = o }) (range_with_len 0 n))
+marked_below elements p n = filter (is_marked elements) (map (holder p) (range_with_len 0 n))
 
 -- what the program keeps of the marked runs that hold frame p
 abbrev pub marked_owner : List Element → ℕ → Owner

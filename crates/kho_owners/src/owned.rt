@@ -46,7 +46,7 @@ fn is_right(p: u32, owner: Owner, marked: Owner) -> bool
 /// one in `users` that holds it. A frame's users are the runs in `users`, of order 0 to 9, the scratch areas and the
 /// chunk frames; what of them lies behind the last frame doesn't count.
 ///
-/// It costs a step for each frame of each user, and for each frame of the machine ten looks through the elements of the
+/// It costs a step for each frame of each user, and for each frame of the machine one look through the elements of the
 /// chain, of which there are at most 14 where the chain keeps its rules; and memory for a few bytes a frame. `Err`: out
 /// of memory.
 pub fn first_ill_frame(
