@@ -7,3 +7,6 @@ mod owner;
 mod table;
 
 pub use owned::{UsedRun, first_ill_frame};
+
+#[cfg(test)]
+mod tests;
