@@ -1,6 +1,6 @@
 //! The chain of chunk frames, read from any bytes.
 
-ghost use Rattle.std.specs.Prelude.{◌≡◌, ◌<◌, IfOk, length};
+ghost use Rattle.std.specs.Prelude.{◌<◌, IfOk, length};
 ghost use Rattle.std.specs.List.{All};
 ghost use Rattle.phys_frames.specs.Memory.{AllHome};
 ghost use Rattle.record_frames.specs.Reading.{chunks_at};

@@ -1,6 +1,6 @@
 //! Elements of chunk frames, read from any bytes.
 
-ghost use Rattle.std.specs.Prelude.{◌≡◌, ◌-◌, ◌/◌, ◌%◌, ◌^◌, ◌==◌, ◌≤◌, ◌<◌, ◌&&◌, IfOk, IfSome, nat_eq, nat_le, nat_lt, length};
+ghost use Rattle.std.specs.Prelude.{◌≡◌, ◌%◌, ◌==◌, ◌&&◌, IfOk, nat_eq, nat_le, nat_lt, length};
 ghost use Rattle.std.specs.List.{list_all};
 ghost use Rattle.ho_base.specs.BitmapCount.{cover};
 ghost use Rattle.ho_base.specs.declared.limits.TheConstants.{MAX_ORDER};

@@ -1,7 +1,6 @@
 -- Frames hold pages of bytes.
-use Rattle.std.proofs.Common.{◌≡◌, ℕ, ◌<◌, List, Option, Some, length, get_or, ap, subst, sym, ◌∙◌}
+use Rattle.std.proofs.Common.{◌≡◌, ℕ, ◌<◌, List, Some, length, get_or, ap, subst, sym, ◌∙◌}
 use Rattle.ho_base.specs.declared.limits.TheConstants.{PAGE_BYTES}
-use Rattle.ho_base.specs.declared.numbers.Pfn.{Pfn}
 use Rattle.phys_frames.specs.Memory.{Memory, page_at}
 use Rattle.record_frames.specs.Ram.{Ram}
 use Rattle.record_frames.specs.Laws.{Holds}

@@ -1,21 +1,20 @@
 -- The parts of an image in the order in which they are read.
-use Rattle.std.proofs.Common.{◌≡◌, ℕ, ◌<◌, true, List, [], ◌++◌, length, map, Option, Some, None, Result, Ok, Err, refl, sym, ap, subst, ◌∙◌}
+use Rattle.std.proofs.Common.{◌≡◌, ℕ, ◌<◌, true, List, Option, Some, None, Result, Ok, Err, refl, sym, ap, subst, ◌∙◌}
 use Rattle.std.specs.List.{flat_map, range_with_len}
-use Rattle.std.specs.Prelude.{◌&&◌, nat_lt, IsTrue}
+use Rattle.std.specs.Prelude.{nat_lt}
 use Rattle.std.proofs.lemmas.Bool.{and_parts, ltb-true}
 use Rattle.ho_base.specs.declared.numbers.Kind.{Kind}
 use Rattle.ho_base.specs.declared.numbers.Pfn.{Pfn}
 use Rattle.ho_events.specs.Handler.{BoundState}
 use Rattle.fdt_blob.specs.Trees.{Tree}
-use Rattle.fdt_blob.specs.Blob.{Spells}
 use Rattle.folio_bitmaps.specs.Chunks.{Element}
 use Rattle.record_frames.specs.Ram.{Ram, is_frame}
 use Rattle.record_frames.specs.Sheets.{Sheet, SessionRecord, items_of}
 use Rattle.record_frames.specs.Rules.{version_1, versions}
 use Rattle.record_frames.specs.Handover.{Root, Luo, root_of, luo_of}
-use Rattle.record_frames.specs.Kept.{Kept, devices, files_of, sessions_of, carried}
+use Rattle.record_frames.specs.Kept.{Kept, devices, files_of}
 use Rattle.record_frames.specs.Owners.{first_ill}
-use Rattle.record_frames.specs.Carries.{Keep, Carries}
+use Rattle.record_frames.specs.Carries.{Keep}
 use Rattle.record_frames.specs.Reading.{◌>>=◌, or_else, told_as, chunks_at, records_at, bounds_at, owned_well, kept_at, BreakAt}
 use Rattle.record_frames.specs.Laws.{Holds, ReadIsKept}
 use Rattle.record_frames.specs.Slots.{Tells}
@@ -24,9 +23,8 @@ use Rattle.record_frames.specs.declared.place.ImagePlace.{ImagePlace}
 use Rattle.record_frames.specs.declared.place.ImagePlace.TheVariants.{Root as RootAt, Luo as LuoAt, Chain, Record, Bound, Owner}
 use Rattle.record_frames.specs.declared.entry.HandoverRead.{HandoverRead}
 use Rattle.kho_owners.specs.Owned.{frame_number}
-use Rattle.kho_records.specs.Survey.{kept_of, all_within, AreRead, TellsFrames}
+use Rattle.kho_records.specs.Survey.{kept_of, AreRead, TellsFrames}
 use Rattle.kho_records.specs.declared.reading.FramesRead.{FramesRead}
-use Rattle.kho_records.proofs.Limits.{records_within}
 
 module _ (ram : Ram) (entry : ℕ) (h : HandoverRead) where
   abbrev Chained : Type 0

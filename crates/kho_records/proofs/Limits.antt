@@ -6,7 +6,7 @@ use Rattle.std.proofs.lemmas.Bool.{and_parts, and_from, leb-true, le-leb}
 use Rattle.std.proofs.lemmas.List.{append-nil}
 use Rattle.std.proofs.lemmas.List.Concat.{flat_map-append}
 use Rattle.std.proofs.lemmas.List.Folds.{list_all-append}
-use Rattle.ho_base.specs.declared.limits.TheConstants.{PAGE_BYTES, MAX_ORDER, FILE_BYTES, SESSION_FILES, FILES}
+use Rattle.ho_base.specs.declared.limits.TheConstants.{PAGE_BYTES, MAX_ORDER, FILE_BYTES}
 use Rattle.ho_events.specs.Lists.{pieces}
 use Rattle.record_frames.specs.Ram.{Ram, is_frame}
 use Rattle.record_frames.specs.Sheets.{Sheet, FileSlot, SessionSlot, FileRecord, SessionRecord, items_of, numbers_of}

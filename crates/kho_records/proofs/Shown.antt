@@ -1,13 +1,13 @@
 -- What is carried shows what was read.
 use Rattle.std.proofs.Common.{◌≡◌, ℕ, List, [], ◌∷◌, ◌++◌, length, get_or, map, take, Option, Some, None, refl, sym, ap, ◌∙◌, arith}
 use Rattle.std.specs.List.{flat_map}
-use Rattle.std.proofs.lemmas.List.{append-nil, map-append}
+use Rattle.std.proofs.lemmas.List.{map-append}
 use Rattle.ho_base.specs.declared.numbers.Pfn.{Pfn}
 use Rattle.ho_base.specs.declared.numbers.Kind.TheVariants.{Dev0, Dev1, Dev2, Dev3}
 use Rattle.ho_events.specs.Lists.{firsts}
 use Rattle.ho_world.specs.Frozen.{CarriedFile as FileState, CarriedSession as SessionState}
 use Rattle.record_frames.specs.Ram.{Ram, run_bytes}
-use Rattle.record_frames.specs.Sheets.{FileRecord, items_of, numbers_of}
+use Rattle.record_frames.specs.Sheets.{items_of, numbers_of}
 use Rattle.record_frames.specs.Kept.{devices, carried_file, carried_session}
 use Rattle.record_frames.specs.Lists.{sheet_views}
 use Rattle.record_frames.specs.Files.{file_record}

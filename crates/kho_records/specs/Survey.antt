@@ -1,13 +1,10 @@
 -- What the frames of an image say, as the program reads them.
-use Rattle.std.specs.Prelude.{◌≡◌, ℕ, Bool, ◌&&◌, nat_le, List, ◌∷◌, ◌++◌, length, map, Option, Some, None, Result, Ok, Err, IsTrue, get_or}
-use Rattle.std.specs.List.{list_all, flat_map, range_with_len}
+use Rattle.std.specs.Prelude.{◌≡◌, ℕ, Bool, ◌&&◌, nat_le, List, ◌∷◌, ◌++◌, map, Result, Ok, Err, IsTrue}
+use Rattle.std.specs.List.{list_all, range_with_len}
 use Rattle.ho_base.specs.declared.limits.TheConstants.{MAX_ORDER, FILE_BYTES}
-use Rattle.ho_base.specs.declared.numbers.Pfn.{Pfn}
-use Rattle.ho_base.specs.declared.numbers.Kind.{Kind}
 use Rattle.ho_events.specs.Lists.{firsts}
 use Rattle.fdt_blob.specs.Trees.{Tree}
 use Rattle.fdt_blob.specs.Blob.{Spells}
-use Rattle.folio_bitmaps.specs.Runs.{Run}
 use Rattle.record_frames.specs.Ram.{Ram, is_frame}
 use Rattle.record_frames.specs.Sheets.{FileRecord, SessionRecord, numbers_of, record_numbers}
 use Rattle.record_frames.specs.Rules.{version_1}
@@ -18,7 +15,6 @@ use Rattle.record_frames.specs.Reading.{BreakAt, kept_at, owned_well}
 use Rattle.record_frames.specs.Bounds.{bound_view}
 use Rattle.record_frames.specs.Sessions.{records_view}
 use Rattle.record_frames.specs.declared.carried.Carried.{Carried}
-use Rattle.record_frames.specs.declared.carried.CarriedBound.{CarriedBound}
 use Rattle.record_frames.specs.declared.place.ImagePlace.{ImagePlace}
 use Rattle.chunk_frames.specs.Chunks.{chunk_views}
 use Rattle.kho_records.specs.declared.reading.FramesRead.{FramesRead}

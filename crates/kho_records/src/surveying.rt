@@ -1,7 +1,7 @@
 //! What frames carry, or the first place whose rules break.
 
-ghost use Rattle.std.specs.Prelude.{◌≡◌, ◌^◌, ◌<◌, IfErr, IfOk, IsTrue, length};
-ghost use Rattle.std.specs.List.{All, range_with_len};
+ghost use Rattle.std.specs.Prelude.{◌≡◌, IfErr, IfOk, IsTrue};
+ghost use Rattle.std.specs.List.{range_with_len};
 ghost use Rattle.ho_events.specs.Lists.{firsts};
 ghost use Rattle.phys_frames.specs.Memory.{AllHome};
 ghost use Rattle.record_frames.specs.Sheets.{record_numbers};

@@ -1,4 +1,4 @@
-use Rattle.std.proofs.Common.{◌≡◌, ℕ, ◌-◌, List, ◌++◌, Some, length, take, drop, false, true, sym, ap, ◌∙◌}
+use Rattle.std.proofs.Common.{ℕ, ◌-◌, List, ◌++◌, Some, length, take, drop, false, true, sym, ap, ◌∙◌}
 use Rattle.record_frames.proofs.ListFronts.{from_place}
 use Rattle.chunk_frames.proofs.Elements.{element_of, element_is}
 use Rattle.chunk_frames.proofs.element.read_element.Goals as goal

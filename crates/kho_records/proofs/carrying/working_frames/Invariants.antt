@@ -1,4 +1,4 @@
-use Rattle.std.proofs.Common.{◌∷◌, ◌++◌}
+use Rattle.std.proofs.Common.{◌∷◌}
 use Rattle.ho_events.specs.Lists.{firsts}
 use Rattle.kho_records.proofs.Adding.{Added}
 use Rattle.kho_records.proofs.Shown.{one_number}

@@ -1,4 +1,4 @@
-use Rattle.std.proofs.Common.{ℕ, ◌<◌, length, arith}
+use Rattle.std.proofs.Common.{arith}
 use Rattle.record_frames.specs.Sheeted.{ram_of}
 use Rattle.kho_records.proofs.Held.{HoldsPage, held, all_held}
 use borrow.Author.Count.{below_more}

@@ -1,0 +1,5 @@
+mod Flags
+mod Found
+mod Marks
+mod Rule
+mod Tables
