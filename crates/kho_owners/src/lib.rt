@@ -7,6 +7,3 @@ mod owner;
 mod table;
 
 pub use owned::{UsedRun, first_ill_frame};
-
-#[cfg(test)]
-mod tests;

@@ -3,7 +3,7 @@
 ghost use Rattle.std.specs.Prelude.{◌≤◌, All};
 ghost use Rattle.ho_base.specs.declared.limits.TheConstants.{MAX_ORDER};
 
-use crate::{UsedRun, first_ill_frame};
+use kho_owners::{UsedRun, first_ill_frame};
 use chunk_frames::{ChunkSheet, ElementRead};
 use ho_base::numbers::Pfn;
 use ho_base::shape::{Area, Shape};
