@@ -1,9 +1,8 @@
 #!/bin/bash
 # Blobs that `fdt_tool` writes are read back by `dtc`, the devicetree compiler, to the same trees, and blobs that `dtc`
-# makes from source are read by `fdt_tool` with the same properties.
+# makes from source are read by `fdt_tool` with the same properties. The entry frame that the writer of records makes is
+# read back by `dtc` too.
 . "$(dirname "$0")/lib/common.sh"
-crate="$top/crates/fdt_tool"
-program="$crate/out/fdt_tool"
 
 # Ends the script without a failure where dtc isn't here.
 if ! command -v dtc >/dev/null; then
@@ -11,30 +10,33 @@ if ! command -v dtc >/dev/null; then
     finish
 fi
 
-# Whether the program was built since its sources changed.
-is_current() {
-    [ -x "$program" ] &&
-        [ -z "$(find "$crate" "$top/crates/fdt_blob" "$top/crates/ho_base" "$top/crates.txt" -name out -prune -o -type f -newer "$program" -print -quit)" ]
+# need_tool NAME CRATE.. -- WORD..: the program of the crate NAME, which stands on these crates, is the one that is run from
+# here on. Where their sources changed since it was built, it is proved and built, and run once with these words. Ends the
+# script where that can't be done.
+need_tool() {
+    local name=$1 folders=("$top/crates.txt")
+    while [ "$1" != -- ]; do
+        folders+=("$top/crates/$1")
+        shift
+    done
+    program="$top/crates/$name/out/$name"
+    if [ -x "$program" ] && [ -z "$(find "${folders[@]}" -name out -prune -o -type f -newer "$program" -print -quit)" ]; then
+        return
+    fi
+    if ! command -v rt >/dev/null; then
+        skip "$name isn't built, and rt, which proves and builds it, isn't here"
+        finish
+    fi
+    if ! (cd "$top/crates/$name" && rt run "$@" </dev/null >/dev/null 2>"$work/build.log"); then
+        tail -n 30 "$work/build.log" >&2
+        fail "$name is built"
+        finish
+    fi
 }
 
-# Proves and builds the tool where that is due.
-if ! is_current; then
-    if ! command -v rt >/dev/null; then
-        skip "the tool isn't built, and rt, which proves and builds it, isn't here"
-        finish
-    fi
-    if ! (cd "$crate" && rt run -- write smallest </dev/null >/dev/null 2>"$work/build.log"); then
-        tail -n 30 "$work/build.log" >&2
-        fail "the tool is built"
-        finish
-    fi
-fi
-
-# writes NAME SOURCE: the tool's blob of the tree NAME and the blob that dtc makes of the source are the same source text
-# when dtc reads them.
-writes() {
-    run_program write "$1" written.dtb
-    check "the tool writes the tree $1" 0 "" ""
+# same_tree NAME SOURCE: the blob that was written and the blob that dtc makes of the source are the same source text when dtc
+# reads them.
+same_tree() {
     printf '/dts-v1/;\n%s\n' "$2" | dtc -q -I dts -O dtb -o "$work/wanted.dtb" - || fail "dtc compiles the tree $1"
     dtc -q -I dtb -O dts -o "$work/wanted.dts" "$work/wanted.dtb"
     if dtc -q -I dtb -O dts -o "$work/written.dts" "$work/written.dtb" &&
@@ -44,6 +46,27 @@ writes() {
         fail "dtc reads the tree $1 back"
         diff "$work/wanted.dts" "$work/written.dts" | head -n 10
     fi
+}
+
+# writes NAME SOURCE: the tool's blob of the tree NAME is the tree of the source.
+writes() {
+    run_program write "$1" written.dtb
+    check "the tool writes the tree $1" 0 "" ""
+    same_tree "$1" "$2"
+}
+
+# The source of the tree of an entry frame, by the numbers of the first chunk frame and of the session frame.
+handover_tree() {
+    printf '/ {
+    compatible = "kho-v1";
+    preserved-memory-map = [00 00 00 00 00 00 00 %s];
+    scratch = [00 00 00 00 00 00 00 01 00 00 00 00 00 00 00 08];
+    luo {
+        compatible = "luo-v1";
+        liveupdate-number = [00 00 00 00 00 00 00 01];
+        session-header = [00 00 00 00 00 00 00 %s];
+    };
+};' "$1" "$2"
 }
 
 # reads NAME SOURCE TEXT PATH..: what the tool says of these paths of the blob that dtc makes of the source is this text.
@@ -73,18 +96,11 @@ levels() {
     printf '/ { %s };' "$text"
 }
 
+need_tool fdt_tool fdt_blob ho_base -- write smallest
+
 # Writing.
 writes smallest '/ { };'
-writes handover '/ {
-    compatible = "kho-v1";
-    preserved-memory-map = [00 00 00 00 00 00 00 0a];
-    scratch = [00 00 00 00 00 00 00 01 00 00 00 00 00 00 00 08];
-    luo {
-        compatible = "luo-v1";
-        liveupdate-number = [00 00 00 00 00 00 00 01];
-        session-header = [00 00 00 00 00 00 00 0b];
-    };
-};'
+writes handover "$(handover_tree 0a 0b)"
 writes values '/ {
     v0; v1 = [ff]; v2 = [ff 00]; v3 = [ff 00 01]; v4 = [ff 00 01 7f]; v5 = [ff 00 01 7f 80];
     v6 = [ff 00 01 7f 80 0d]; v7 = [ff 00 01 7f 80 0d fe]; v8 = [ff 00 01 7f 80 0d fe ed];
@@ -168,5 +184,12 @@ printf '/dts-v1/;\n/ { };\n' | dtc -q -I dts -O dtb -o "$work/made.dtb" -
 head -c 71 "$work/made.dtb" >"$work/short.dtb"
 run_program props short.dtb /
 check "the tool refuses the smallest blob without its last byte" 1 "refused: header$newline" ""
+
+# The entry frame of the records: the blob, and zeros up to the frame's end.
+need_tool records_bench kho_writer kho_laws chain_laws record_frames folio_bitmaps phys_frames fdt_blob ho_base -- help
+run_program entry written.dtb
+check "the writer of records writes an entry frame" 0 "" ""
+expect "an entry frame has 4096 bytes" 4096 "$(stat -c %s "$work/written.dtb")"
+same_tree entry "$(handover_tree 0e 0b)"
 
 finish

@@ -1,0 +1,5 @@
+pub mod MarkSteps
+pub mod CarrySteps
+pub mod Rising
+pub mod RoomSteps
+pub mod NeedSteps

@@ -1,0 +1,4 @@
+pub mod Marking
+pub mod Tests
+pub mod Taken
+pub mod Ready
