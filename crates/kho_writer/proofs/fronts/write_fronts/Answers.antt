@@ -1,4 +1,4 @@
-use Rattle.std.proofs.Common.{◌∙◌, List, map, ap}
+use Rattle.std.proofs.Common.{◌∙◌, List, map, ap, arith}
 use Rattle.record_frames.specs.Kept.{devices, bound_frames}
 use Rattle.record_frames.specs.State.{bound_among}
 use Rattle.record_frames.specs.Writing.{frames_of, pages_in_use, with_pages}
@@ -32,4 +32,4 @@ pub returns-clause-fits : goal.returns-clause-fits
 returns-clause-fits c =
     blob_fits c.args.carried.now c.args.folios.now c.split_at_mut-entry.result.1.now c.args.chunk.0 c.first_number-header.result.0 (map number_at c.bound_frames-bounds.result)
     c.split_at_mut-entry.ensures.back c.first_number-header.ensures
-    (c.bound_frames-bounds.ensures ∙ ap (λ (l : List CarriedBound). bound_frames (map (bound_among l) devices)) c.as_slice-2.ensures) c.write_entry.ensures.within
+    (c.bound_frames-bounds.ensures ∙ ap (λ (l : List CarriedBound). bound_frames (map (bound_among l) devices)) c.as_slice-2.ensures) (omega (arith, c.write_entry.ensures.within))
