@@ -1,5 +1,5 @@
 -- Flags of file numbers, as sets.
-use Rattle.std.proofs.Common.{◌≡◌, ℕ, ◌<◌, ◌≤◌, ◌&&◌, ◌||◌, ◌==◌, Bool, true, false, cond, not, nat_lt, List, [], ◌∷◌, length, replicate, slice_index_or, slice_set, refl, ap, sym, ◌∙◌, arith, zero, suc}
+use Rattle.std.proofs.Common.{◌≡◌, ℕ, ◌<◌, ◌≤◌, ◌&&◌, ◌||◌, ◌==◌, ◌-◌, ◌++◌, Bool, true, false, cond, not, nat_lt, List, [], ◌∷◌, length, replicate, slice_index_or, slice_set, refl, ap, sym, ◌∙◌, arith, zero, suc}
 use Rattle.std.specs.List.{list_any}
 use Rattle.std.specs.Ordering.{nat_cmp, eq_by_cmp}
 use Rattle.std.specs.Cmp.{nat_cmp_total}
@@ -12,6 +12,7 @@ use Rattle.ho_events.specs.Lists.{upto}
 use Rattle.ho_events.proofs.Ties.{tied_is}
 use Rattle.registry_core.proofs.UsedFlags.{flag_at}
 use Rattle.registry_core.specs.RegistryShown.{numbers_of}
+use Rattle.registry_core.specs.UsedNumbers.{used_first}
 
 no_flag : (n f : ℕ) → slice_index_or (replicate n false) f false ≡ false
 no_flag n f = grind (arith, common_steps)
@@ -53,6 +54,27 @@ numbers_none used h =
   where
     count : (n : ℕ) → length (replicate n false) ≡ n
     count n = grind (arith, common_steps)
+
+-- the first numbers are in use
+flag_first : (n m f : ℕ) → slice_index_or (replicate n true ++ replicate m false) f false ≡ nat_lt f n
+flag_first zero m f = no_flag m f ∙ none_below f
+flag_first (suc n) m zero = least n
+  where
+    least : (n : ℕ) → true ≡ nat_lt 0 (suc n)
+    least n = grind (arith, nat_tests)
+flag_first (suc n) m (suc f) = flag_first n m f ∙ less_again f n
+  where
+    less_again : (f n : ℕ) → nat_lt f n ≡ nat_lt (suc f) (suc n)
+    less_again f n = grind (arith, nat_tests)
+
+pub count_first : (n count : ℕ) → n ≤ count → length (used_first n count) ≡ count
+count_first n count h = grind (arith, common_steps)
+
+pub numbers_first : (used : List Bool) (n : ℕ) → used ≡ used_first n FILES → n ≤ FILES → numbers_of used ≡ finset.from_list (upto n)
+numbers_first used n is h =
+    finset.same_set nat_cmp_total finset.nat_cmp-IsAntisymmetric _ _
+    (λ f. numbers_at used f (ap length is ∙ count_first n FILES h) ∙ ap (λ l. slice_index_or l f false) is ∙ flag_first n (FILES - n) f
+    ∙ sym (below n f) ∙ sym (finset.contains-from_list nat_cmp_total (upto n) f))
 
 -- a flag set or cleared
 set_or : (b c : Bool) → (b || c) ≡ cond b true c

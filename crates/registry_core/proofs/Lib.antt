@@ -6,3 +6,4 @@ pub mod RegistrySteps
 pub mod SlotMaps
 pub mod TakenSlots
 pub mod UsedFlags
+pub mod WaitingNames

@@ -37,23 +37,23 @@ no_entries : {X : Type 0} (es : List X) → length es ≡ 0 → es ≡ []
 no_entries [] h = refl
 no_entries (e ∷ es) h = absurd (omega (arith, h))
 
-none_used : (k : ℕ) → is_used (slots_of outgoing_slot []) k ≡ false
+pub none_used : (k : ℕ) → is_used (slots_of outgoing_slot []) k ≡ false
 unfolding slots_of
 none_used k =
     ap (λ es. list_any (λ s. s == k) (map (λ e. e.1) es))
     (no_entries (finmap.entries finmap.empty) (sym (finmap.len-entries finmap.empty) ∙ finmap.len-empty (slice_cmp nat_cmp) ℕ))
 
-none_slotted : AreApart (slots_of outgoing_slot [])
+pub none_slotted : AreApart (slots_of outgoing_slot [])
 unfolding slots_of
 none_slotted a b k h = absurd (no_some k (sym h ∙ finmap.get-empty (slice_cmp nat_cmp) a))
   where
     no_some : (k : ℕ) → ◌≡◌ {A = Option ℕ} (Some k) None → ⊥
     no_some k h = cc
 
-unset : (n f : ℕ) → slice_index_or (replicate n false) f false ≡ false
+pub unset : (n f : ℕ) → slice_index_or (replicate n false) f false ≡ false
 unset n f = grind (arith, common_steps)
 
-as_many : (n : ℕ) → length (replicate n false) ≡ n
+pub as_many : (n : ℕ) → length (replicate n false) ≡ n
 as_many n = grind (arith, common_steps)
 
 cold_keeps : (taken files : List Bool) → taken ≡ replicate OUT_SLOTS false → files ≡ replicate FILES false → KeepsRegistry (shown (cold_parts taken files)) [] (cold_parts taken files)
@@ -80,7 +80,7 @@ pub keeps_run : (start : RegistryState) (h : List Entry) (p : Held) → KeepsReg
 keeps_run start h p k = ap is_some k.replayed
 
 -- a fact of the state that is shown, of the state that the history leads to, and the other way round
-told_at : (Q : RegistryState → Type 0) (start : RegistryState) (h : List Entry) (p : Held) → KeepsRegistry start h p → Q (shown p) → MatchOption (registry_from start h) ⊥ Q
+pub told_at : (Q : RegistryState → Type 0) (start : RegistryState) (h : List Entry) (p : Held) → KeepsRegistry start h p → Q (shown p) → MatchOption (registry_from start h) ⊥ Q
 told_at Q start h p k q = subst (λ o. MatchOption o ⊥ Q) (sym k.replayed) q
 
 pub shown_at : (R : RegistryState → Type 0) (start : RegistryState) (h : List Entry) (p : Held) → KeepsRegistry start h p → MatchOption (registry_from start h) ⊥ R → R (shown p)
@@ -165,7 +165,7 @@ slot_ready start h p name slots k is =
     some : (o : Option Slots) → IsSome o → is_some o ≡ true
     some o h = h
 
-out_is : (found : Option SlotNo) (slot : Option ℕ) → slot ≡ option_map (λ x. x.0) found → IsTrue (is_some found) ↔ IsTrue (is_some slot)
+pub out_is : (found : Option SlotNo) (slot : Option ℕ) → slot ≡ option_map (λ x. x.0) found → IsTrue (is_some found) ↔ IsTrue (is_some slot)
 out_is None slot h = subst (λ o. IsTrue false ↔ IsTrue (is_some o)) (sym h) (λ x. x, λ x. x)
 out_is (Some x) slot h = subst (λ o. IsTrue true ↔ IsTrue (is_some o)) (sym h) (λ x. x, λ x. x)
 

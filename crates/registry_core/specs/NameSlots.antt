@@ -1,6 +1,6 @@
 -- The slots of names.
-use Rattle.std.specs.Prelude.{ℕ, List}
-use Rattle.std.specs.Prelude.{Option, None}
+use Rattle.std.specs.Prelude.{ℕ, ◌+◌, List, [], ◌∷◌}
+use Rattle.std.specs.Prelude.{Option, None, Some}
 use Rattle.std.specs.Map.{lookup}
 use Rattle.std.specs.Option.{unwrap_or}
 use Rattle.ho_base.specs.declared.numbers.SlotNo.{SlotNo}
@@ -18,3 +18,12 @@ slots_at names name = unwrap_or (lookup (same_bytes name) names) no_slots
 -- slots with another outgoing one
 abbrev pub with_outgoing : Option SlotNo → Slots → Slots
 with_outgoing slot slots = record slots { outgoing = slot }
+
+-- a name that waits in a slot
+abbrev pub waits_in : ℕ → Slots
+waits_in slot = record { outgoing = None; waiting = Some (record { 0 = slot }); opened = None }
+
+-- names that wait in one slot after the other, from a slot on
+abbrev pub waiting_from : ℕ → List (List ℕ) → List (List ℕ × Slots)
+waiting_from slot [] = []
+waiting_from slot (name ∷ names) = (name, waits_in slot) ∷ waiting_from (slot + 1) names

@@ -1,12 +1,13 @@
 -- What the registry answers.
-use Rattle.std.specs.Prelude.{ℕ, ◌<◌, List, IsTrue}
+use Rattle.std.specs.Prelude.{ℕ, ◌+◌, ◌<◌, List, [], ◌∷◌, IsTrue}
 use Rattle.std.specs.Prelude.{Option, None, Some}
 use Rattle.std.specs.Cmp.Lexicographic.{slice_cmp}
 use Rattle.std.specs.Ordering.{nat_cmp}
 use Rattle.std.specs.FinMap as finmap
 use Rattle.std.specs.FinSet as finset
 use Rattle.ho_base.specs.declared.limits.TheConstants.{OUT_SLOTS, FILES}
-use Rattle.ho_events.specs.Registry.{RegistryState}
+use Rattle.ho_events.specs.Lists.{upto}
+use Rattle.ho_events.specs.Registry.{RegistryState, cold_registry}
 use Rattle.ho_events.specs.declared.reply.Reply.{Reply}
 use Rattle.ho_events.specs.declared.reply.Reply.TheVariants.{OkFile, OkSlot, FilesFull, NameTaken, SessionsFull, NoSession}
 
@@ -35,6 +36,10 @@ ready_after name reply ready = ready
 abbrev pub IsOutgoing : List ℕ → RegistryState → Type 0
 IsOutgoing name s = IsTrue (finmap.contains_key s.outgoing name)
 
+-- a name was opened
+abbrev pub IsOpened : List ℕ → RegistryState → Type 0
+IsOpened name s = IsTrue (finmap.contains_key s.opened name)
+
 -- a file number is in use
 abbrev pub IsInUse : ℕ → RegistryState → Type 0
 IsInUse f s = IsTrue (finset.contains s.files f)
@@ -44,3 +49,13 @@ abbrev pub IsWithin : Reply → Type 0
 IsWithin (OkSlot slot) = slot.0 < OUT_SLOTS
 IsWithin (OkFile f) = f.0 < FILES
 IsWithin reply = Unit {0}
+
+-- names with one slot after the other, from a slot on
+abbrev pub slotted_from : ℕ → List (List ℕ) → List (List ℕ × ℕ)
+slotted_from slot [] = []
+slotted_from slot (name ∷ names) = (name, slot) ∷ slotted_from (slot + 1) names
+
+-- these names wait in the incoming slots, one after the other, and as many file numbers are in use, from 0 on
+abbrev pub waiting_registry : List (List ℕ) → ℕ → RegistryState
+waiting_registry names files =
+    record cold_registry { waiting = finmap.from_entries (slotted_from OUT_SLOTS names); files = finset.from_list (upto files) }

@@ -1,7 +1,7 @@
 //! Numbers that are in use or free.
 
-ghost use Rattle.std.specs.Prelude.{◌≡◌, ◌<◌, IfOk, IfSome, false, true, length, replicate, slice_index_or, slice_set};
-ghost use Rattle.registry_core.specs.UsedNumbers.{least_free};
+ghost use Rattle.std.specs.Prelude.{◌≡◌, ◌<◌, ◌≤◌, IfOk, IfSome, false, true, length, replicate, slice_index_or, slice_set};
+ghost use Rattle.registry_core.specs.UsedNumbers.{least_free, used_first};
 
 use ho_base::numbers::NoMemory;
 use std::alloc::Global;
@@ -37,6 +37,23 @@ impl Numbers {
             Ok(used) => Ok(Numbers { used, bound: 0 }),
             Err(_) => Err(NoMemory),
         }
+    }
+
+    /// As many numbers, of which the first ones are in use and the others free; no memory where it can't be had.
+    pub(crate) fn used_first(alloc: Global, used: usize, count: usize) -> Result<Numbers, NoMemory>
+        requires { used ≤ count }
+        ensures { IfOk result (λ n. n ≡ used_first used count) }
+    {
+        let Ok(mut flags) = Vec::from_elem(alloc, true, used) else {
+            return Err(NoMemory);
+        };
+        if flags.resize(count, false).is_err() {
+            return Err(NoMemory);
+        }
+        Ok(Numbers {
+            used: flags,
+            bound: used,
+        })
     }
 
     /// Whether a number is in use.

@@ -34,9 +34,9 @@ use std::snapshot::Snapshot;
 /// A name is ready once it has a slot, and stays so from then on: its slots are changed without memory.
 #[derive(Drop)]
 pub struct Registry {
-    start: Snapshot<Parts>,
-    parts: Parts,
-    history: Vec<Entry>,
+    pub(crate) start: Snapshot<Parts>,
+    pub(crate) parts: Parts,
+    pub(crate) history: Vec<Entry>,
 }
 
 impl Model for Registry {

@@ -1,3 +1,4 @@
+pub mod IncomingSlots
 pub mod SessionAdds
 pub mod Sessions
 pub mod Tokens

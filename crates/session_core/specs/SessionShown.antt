@@ -1,5 +1,5 @@
 -- How the parts of a session slot show its state.
-use Rattle.std.specs.Prelude.{◌≡◌, ◌<◌, ℕ, Bool, true, false, ◌==◌, nat_lt, suc, if◌then◌else◌, List, [], ◌∷◌, map, IsTrue}
+use Rattle.std.specs.Prelude.{◌≡◌, ◌<◌, ℕ, Bool, true, false, ◌==◌, not, ◌&&◌, nat_lt, suc, if◌then◌else◌, List, [], ◌∷◌, map, IsTrue}
 use Rattle.std.specs.Prelude.{Option, None, Some}
 use Rattle.std.specs.List.{list_any, All}
 use Rattle.std.specs.Ordering.{nat_cmp}
@@ -33,6 +33,11 @@ AreFiles files = All (λ f. f.1.0 < FILES) files
 -- one of the files has this token
 abbrev pub has_token : ℕ → List (Token × FileNo × ℕ) → Bool
 has_token token files = list_any (λ f. f.0.0 == token) files
+
+-- the slot has an incoming session of this name that wasn't opened
+abbrev pub is_named_waiting : Option Incoming → List ℕ → Bool
+is_named_waiting None name = false
+is_named_waiting (Some i) name = not i.opened && same_bytes i.name name
 
 -- how many files at the front have smaller tokens
 unfoldable pub smaller : ℕ → List (Token × FileNo × ℕ) → ℕ

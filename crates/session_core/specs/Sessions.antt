@@ -1,11 +1,15 @@
 -- What a session slot answers.
-use Rattle.std.specs.Prelude.{◌≡◌, ℕ, Bool, true, false, nat_le, List}
+use Rattle.std.specs.Prelude.{◌≡◌, ℕ, Bool, true, false, not, ◌&&◌, nat_le, List, map}
 use Rattle.std.specs.Prelude.{Option, None, Some}
 use Rattle.std.specs.FinMap as finmap
 use Rattle.ho_base.specs.declared.limits.TheConstants.{SESSION_FILES}
+use Rattle.ho_base.specs.declared.numbers.FileNo.{FileNo}
+use Rattle.ho_base.specs.declared.numbers.Token.{Token}
+use Rattle.ho_events.specs.Lists.{same_bytes}
 use Rattle.ho_events.specs.Session.{SessionState, Free, Out, In, is_out, files_of}
 use Rattle.ho_events.specs.declared.reply.Reply.{Reply}
 use Rattle.ho_events.specs.declared.reply.Reply.TheVariants.{Ok, NoSession, SessionFull, TokenTaken, NotFinished, AlreadyPinned, NoFrames, HandlerFailed}
+use Rattle.session_core.specs.SessionShown.{listed}
 
 -- the slot is free
 abbrev pub IsFree : SessionState → Type 0
@@ -16,6 +20,15 @@ abbrev pub name_of : SessionState → Option (List ℕ)
 name_of Free = None
 name_of (Out name files) = Some name
 name_of (In name opened files) = None
+
+-- an incoming session that waits to be opened: nothing of it was taken
+abbrev pub fresh_incoming : List ℕ → List (Token × FileNo × ℕ) → SessionState
+fresh_incoming name files = In name false (finmap.from_sorted (map listed files))
+
+-- the session is incoming with this name, and wasn't opened
+abbrev pub waits : SessionState → List ℕ → Bool
+waits (In own opened files) name = not opened && same_bytes own name
+waits s name = false
 
 -- what stands against adding a file, in the order in which it is asked: it is no outgoing session of the
 -- name; it is full; it has the token

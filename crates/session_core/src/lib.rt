@@ -1,6 +1,7 @@
 //! Session slots: a named container of files under tokens, with the history of all turns on it.
 #![tactic(auto)]
 
+mod carried;
 mod opening;
 mod session;
 

@@ -32,15 +32,15 @@ use std::snapshot::Snapshot;
 /// turns, that history, and how much more fits; its state is where the history leads from there.
 #[derive(Drop)]
 pub struct SessionObject {
-    number: ObjectNo,
-    start: Snapshot<Opening>,
+    pub(crate) number: ObjectNo,
+    pub(crate) start: Snapshot<Opening>,
     /// The incoming session, where the slot has one.
-    incoming: Option<Incoming>,
+    pub(crate) incoming: Option<Incoming>,
     /// The name of the outgoing session, where the slot has one.
-    name: Option<Name>,
+    pub(crate) name: Option<Name>,
     /// The files with their handles, in strictly rising tokens; each is a file number.
-    files: Vec<(Token, FileNo, u64)>,
-    history: Vec<Entry>,
+    pub(crate) files: Vec<(Token, FileNo, u64)>,
+    pub(crate) history: Vec<Entry>,
 }
 
 impl Model for SessionObject {
