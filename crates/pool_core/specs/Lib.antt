@@ -1,2 +1,3 @@
 pub mod PoolFlags
+pub mod PoolRunFlags
 pub mod PoolValues
