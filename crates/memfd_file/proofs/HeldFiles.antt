@@ -1,9 +1,8 @@
 -- What the parts of a file that an earlier kernel handed over show.
-use Rattle.std.proofs.Common.{◌≡◌, ℕ, ◌+◌, ◌-◌, ◌*◌, ◌≤◌, true, false, List, [], ◌∷◌, ◌++◌, length, take, drop, replicate, refl, ap, sym, ◌∙◌, arith, subst}
+use Rattle.std.proofs.Common.{◌≡◌, ℕ, ◌-◌, ◌*◌, ◌≤◌, List, [], ◌∷◌, ◌++◌, length, take, drop, replicate, refl, ap, sym, ◌∙◌, arith, subst}
 use Rattle.std.specs.Prelude.{Option, None, Some}
 use Rattle.std.specs.Option.{MatchOption}
 use Rattle.std.specs.List.{All}
-use Rattle.std.specs.FinMap as finmap
 use Rattle.std.proofs.Math.ListN.{drop_of_length-le}
 use Rattle.std.proofs.lemmas.List.{take_all, append-nil, length-take, length-drop}
 use Rattle.ho_base.specs.declared.limits.TheConstants.{PAGE_BYTES}
@@ -17,8 +16,8 @@ use Rattle.ho_events.specs.Lists.{upto}
 use Rattle.ho_events.specs.File.{FileState}
 use Rattle.ho_events.specs.History.{run_from, file_from}
 use Rattle.memfd_file.specs.Files.{page_of}
-use Rattle.memfd_file.specs.FileShown.{content_shown, shown, IsPage, IsSound, FolioAtHome, AtHome, KeepsFile}
-use Rattle.memfd_file.specs.Held.{held_file, held_content, listed, cut_at}
+use Rattle.memfd_file.specs.FileShown.{content_shown, shown, IsSound, FolioAtHome, KeepsFile}
+use Rattle.memfd_file.specs.Held.{held_file, held_content, listed}
 use Rattle.memfd_file.specs.declared.content.Content.{Content}
 use Rattle.memfd_file.proofs.Pages.{page_front, page_length}
 

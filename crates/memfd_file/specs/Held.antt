@@ -1,5 +1,5 @@
 -- Files that an earlier kernel handed over.
-use Rattle.std.specs.Prelude.{◌≡◌, ℕ, true, false, List, [], ◌∷◌, length, take, flat_map}
+use Rattle.std.specs.Prelude.{ℕ, true, false, List, [], ◌∷◌, length, take, flat_map}
 use Rattle.std.specs.Prelude.{Option, None, Some, option_map}
 use Rattle.std.specs.FinMap as finmap
 use Rattle.ho_base.specs.declared.numbers.Kind.{Kind}

@@ -1,3 +1,4 @@
+pub mod PoolAdopting
 pub mod PoolFrames
 pub mod PoolLists
 pub mod PoolLodging

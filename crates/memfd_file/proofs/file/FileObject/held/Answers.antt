@@ -1,6 +1,6 @@
-use Rattle.std.proofs.Common.{◌≡◌, ap, ◌∙◌}
+use Rattle.std.proofs.Common.{ap, ◌∙◌}
 use Rattle.std.specs.Prelude.{Some}
-use Rattle.memfd_file.specs.FileShown.{content_shown, shown}
+use Rattle.memfd_file.specs.FileShown.{shown}
 use Rattle.memfd_file.specs.Held.{held_file}
 use Rattle.memfd_file.proofs.HeldFiles.{held_shown, held_keeps, held_is}
 use Rattle.memfd_file.proofs.file.FileObject.held.Goals as goal
