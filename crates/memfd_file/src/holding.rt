@@ -2,10 +2,8 @@
 
 ghost use Rattle.std.specs.Prelude.{◌≡◌, ◌*◌, ◌<◌, ◌≤◌, [], Some, length, replicate};
 ghost use Rattle.std.specs.List.{All};
-ghost use Rattle.std.specs.Vec.{vec_len};
 ghost use Rattle.ho_base.specs.declared.limits.TheConstants.{PAGE_BYTES};
 ghost use Rattle.ho_base.specs.declared.numbers.Kind.TheVariants.{Memfd};
-ghost use Rattle.ho_events.specs.History.{file_from};
 ghost use Rattle.phys_frames.specs.Memory.{AreOf};
 ghost use Rattle.memfd_file.specs.FileValues.{FileIs};
 ghost use Rattle.memfd_file.specs.Held.{held_file, held_content, listed, cut_at};
