@@ -1,3 +1,4 @@
 pub mod FileSteps
+pub mod HeldFiles
 pub mod Pages
 pub mod Ranges

@@ -1,3 +1,4 @@
 pub mod FileShown
 pub mod FileValues
 pub mod Files
+pub mod Held

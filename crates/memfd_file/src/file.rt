@@ -35,12 +35,12 @@ use std::snapshot::Snapshot;
 /// folio that it is given, its state before the first of these turns, that history, and how much more fits; its
 /// state is where the history leads from there.
 pub struct FileObject {
-    number: ObjectNo,
-    home: Home,
-    start: Snapshot<Option<Content>>,
+    pub(crate) number: ObjectNo,
+    pub(crate) home: Home,
+    pub(crate) start: Snapshot<Option<Content>>,
     /// The file; none where it is absent.
-    content: Option<Content>,
-    history: Vec<Entry>,
+    pub(crate) content: Option<Content>,
+    pub(crate) history: Vec<Entry>,
 }
 
 impl Model for FileObject {

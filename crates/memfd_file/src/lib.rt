@@ -6,6 +6,7 @@ mod closing;
 mod content;
 mod facts;
 mod file;
+mod holding;
 mod laws;
 
 pub use facts::Facts;

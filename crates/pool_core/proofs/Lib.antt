@@ -1,5 +1,7 @@
+pub mod PoolAdopting
 pub mod PoolFrames
 pub mod PoolLists
+pub mod PoolLodging
 pub mod PoolRuns
 pub mod PoolSearch
 pub mod PoolStates

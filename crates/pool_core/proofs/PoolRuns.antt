@@ -97,7 +97,7 @@ loose_below t n is (r ∷ runs) h =
     let parts : (is_loose t r.0 ≡ true) × (list_all (λ q. is_loose t q.0) runs ≡ true) = and_parts _ _ h in
     and_from _ _ (ap (nat_lt r.0) is ∙ flag_below t.single r.0 (and_parts _ _ parts.0).0) (loose_below t n is runs parts.1)
 
-flags_length : (b : Bool) → (runs : List Pfn) → (flags : List Bool) → length (with_flags b runs flags) ≡ length flags
+pub flags_length : (b : Bool) → (runs : List Pfn) → (flags : List Bool) → length (with_flags b runs flags) ≡ length flags
 unfolding with_flags
 flags_length b [] flags = refl
 flags_length b (r ∷ runs) flags = flags_length b runs (slice_set flags r.0 b) ∙ length-set flags r.0 b

@@ -1,2 +1,4 @@
+pub mod PoolAdopting
 pub mod PoolFlags
+pub mod PoolRunFlags
 pub mod PoolValues

@@ -12,9 +12,9 @@ use std::snapshot::Snapshot;
 /// The runs that are owned, each with its order, and the frames that are pinned. Contracts see the pool's state.
 #[derive(Drop)]
 pub(crate) struct Opening {
-    shape: Snapshot<Shape>,
-    owned: Vec<(Pfn, Order)>,
-    pinned: Vec<Pfn>,
+    pub(crate) shape: Snapshot<Shape>,
+    pub(crate) owned: Vec<(Pfn, Order)>,
+    pub(crate) pinned: Vec<Pfn>,
 }
 
 impl Model for Opening {

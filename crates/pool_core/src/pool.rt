@@ -40,9 +40,9 @@ use std::snapshot::Snapshot;
 /// machine's shape, the frames' home, the state before the first of these turns, that history, and how much more of
 /// it fits; which frames are owned and pinned is where the history leads from there.
 pub struct Pool {
-    table: Table,
-    start: Snapshot<Opening>,
-    history: Vec<Entry>,
+    pub(crate) table: Table,
+    pub(crate) start: Snapshot<Opening>,
+    pub(crate) history: Vec<Entry>,
 }
 
 impl Model for Pool {

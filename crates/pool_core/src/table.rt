@@ -22,11 +22,11 @@ use std::marker::Model;
 /// The frames of a machine with a flag each for whether an owned run holds it, whether it is an owned run of order 0,
 /// and whether it is pinned. A frame that no owned run holds is home.
 pub(crate) struct Table {
-    frames: Frames,
-    shape: Shape,
-    owned: Vec<bool>,
-    single: Vec<bool>,
-    marked: Vec<bool>,
+    pub(crate) frames: Frames,
+    pub(crate) shape: Shape,
+    pub(crate) owned: Vec<bool>,
+    pub(crate) single: Vec<bool>,
+    pub(crate) marked: Vec<bool>,
 }
 
 impl Model for Table {
@@ -258,7 +258,7 @@ impl Table {
 }
 
 /// The flag of a frame; past the last frame none stands.
-fn flag_of(flags: &[bool], run: Pfn) -> bool
+pub(crate) fn flag_of(flags: &[bool], run: Pfn) -> bool
     ensures { result ≡ flag flags.now run.0 }
 {
     match flags.get(run.0 as usize) {
