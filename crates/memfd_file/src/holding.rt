@@ -21,6 +21,7 @@ impl FileObject {
     /// folio is made zero. At this stage it is a memfd of order 0 with at most one folio, so of at most
     /// [`PAGE_BYTES`](ho_base::limits::PAGE_BYTES) bytes. It takes no memory.
     pub fn held(
+        alloc: Global,
         object: ObjectNo,
         home: Home,
         kind: Kind,
@@ -28,7 +29,6 @@ impl FileObject {
         size: u32,
         position: u32,
         folios: Vec<Folio>,
-        alloc: Global,
     ) -> FileObject
         requires memfd { kind ≡ Memfd }
         requires single { order.0 ≡ 0 }
