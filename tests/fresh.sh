@@ -10,7 +10,7 @@ if ! command -v rt >/dev/null; then
 fi
 mkdir "$work/fresh" || exit 1
 tar -C "$top" --exclude=./.git --exclude=out -cf - . | tar -C "$work/fresh" -xf - || exit 1
-cp "$top/examples/first-path.script" "$work/copy.script" || exit 1
+cp "$top/examples/kexec.script" "$work/copy.script" || exit 1
 
 begin=$(date +%s)
 (cd "$work" && fresh/handover run copy.script </dev/null >"$work/out" 2>"$work/err")

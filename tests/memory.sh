@@ -1,7 +1,7 @@
 #!/bin/bash
 # Refuses, in turn, each request for memory that a run makes of the C library, which is each of its allocations:
-# the run ends with want of memory, and nothing stands on its output but whole blocks of the history, so here
-# nothing. Where a refusal changes nothing at all, that is told.
+# the run ends with want of memory, and nothing stands on its output but whole blocks of the history, so nothing where
+# there is one block. Where a refusal changes nothing at all, that is told.
 . "$(dirname "$0")/lib/common.sh"
 need_program
 
@@ -18,6 +18,18 @@ run_refusing() {
     status=$?
 }
 
+# After how many lines of the history a block may end, in which memory may run out: the text of whole blocks stands.
+fronts=0
+
+# Whether the output is the text of whole blocks.
+is_front() {
+    local lines
+    for lines in $fronts; do
+        head -n "$lines" "$work/out.whole" | cmp -s - "$work/out" && return
+    done
+    return 1
+}
+
 # refuse_each NAME WORD..: refuses each request of a run of these words in turn.
 refuse_each() {
     local name=$1 whole requests number wanting=0 ever=0 other=0
@@ -28,7 +40,7 @@ refuse_each() {
     cp "$work/out" "$work/out.whole"
     for number in $(seq "$requests"); do
         run_refusing "$number" "$@"
-        if [ "$status" -eq 3 ] && [ ! -s "$work/out" ] && [ "$(cat "$work/err")" = "handover: want of memory" ]; then
+        if [ "$status" -eq 3 ] && is_front && [ "$(cat "$work/err")" = "handover: want of memory" ]; then
             wanting=$((wanting + 1))
         elif [ "$status" -eq "$whole" ] && cmp -s "$work/out" "$work/out.whole" && [ ! -s "$work/err" ]; then
             ever=$((ever + 1))
@@ -55,5 +67,9 @@ printf 'machine 64\nscratch 1 63\nround\nagent a\nmemfd m 0\nwrite m 0 68656c6c6
 refuse_each "a script that is refused" run refused
 
 refuse_each "words that fit nothing" run
+
+cp "$top/examples/kexec.script" "$work/kexec" || exit 1
+fronts='0 14 16'
+refuse_each "a kexec" run kexec
 
 finish

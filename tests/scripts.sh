@@ -48,7 +48,7 @@ printf 'machine 64\n' >"$work/script"
 run_program run script
 check "an end before the first scratch line" 1 "script refused: line 2: end$newline" ""
 
-printf 'machine 64\nscratch 1 8\nround\nagent a\nmemfd m 0\nwrite m 0 68656c6c6f\ncreate s\npreserve s 7 m\nclose s\nkexec 1 4\n' >"$work/script"
+printf 'machine 64\nscratch 1 8\nround\nagent a\nmemfd m 0\nwrite m 0 68656c6c6f\ncreate s\npreserve s 7 m\nclose s\ndevice d dev0 16\n' >"$work/script"
 run_program run script
 check "a line that isn't built" 1 "script refused: line 10: later$newline" ""
 
@@ -67,7 +67,7 @@ refused_for() {
     check "refused for $1: $2" 1 "script refused: line ${3:-6}: $1$newline" ""
 }
 refused_for word 'format m'
-refused_for later 'kexec 1 4'
+refused_for later 'device d dev0 16'
 refused_for later 'memfd n 1'
 refused_for later 'write m 4096 00'
 refused_for later 'agent b'
@@ -75,12 +75,15 @@ refused_for later 'fill m 0 1 1'
 refused_for count 'write m 0'
 refused_for number 'write m x 00'
 refused_for number 'read m 0 4097'
+refused_for number 'kexec 1 0'
+refused_for number 'kexec 1 16385'
 refused_for name 'create a/b'
 refused_for hex 'write m 0 0'
 refused_for place 'machine 64'
 refused_for place 'scratch 20 1'
 refused_for place 'agent a'
 refused_for label 'memfd m 0'
+refused_for label 'retrieve s 7 m'
 refused_for place 'round\nmemfd n 0' 7
 printf 'machine 64\nscratch 1 8\nscratch 4 8\n' >"$work/script"
 run_program run script
@@ -91,6 +94,12 @@ check "refused for shape" 1 "script refused: line 3: shape$newline" ""
 } >"$work/script"
 run_program run script
 check "refused for limit: the 65th round" 1 "script refused: line 67: limit$newline" ""
+{
+    printf 'machine 64\nscratch 1 8\n'
+    for kexec in $(seq 1 9); do echo "kexec $kexec 4"; done
+} >"$work/script"
+run_program run script
+check "refused for limit: the 9th kexec" 1 "script refused: line 11: limit$newline" ""
 
 printf 'machine 64\nscratch 1 8\nround\nagent a\ncreate %063d' 0 >"$work/script"
 run_program run script

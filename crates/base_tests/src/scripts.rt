@@ -1,6 +1,6 @@
 //! Scripts that are read, and why lines are refused.
 
-use ho_base::numbers::AgentNo;
+use ho_base::numbers::{AgentNo, Blob, Token};
 use ho_events::command::Command;
 use ho_events::script::Block;
 use script_text::{Reason, ScriptError, read};
@@ -53,9 +53,15 @@ fn gives_the_first_reason_of_a_head(rt: HostRuntime) -> Result<(), Fail> {
             Some((3, Reason::Shape)),
         ),
         ("machine 64\nscratch 1 8\nround\nround", None),
+        ("machine 64\nkexec 1 4", Some((2, Reason::Place))),
+        ("machine 64\nscratch 1 8\nkexec 1 4\nkexec 2 4", None),
         (
-            "machine 64\nscratch 1 8\nkexec 1 4",
-            Some((3, Reason::Later)),
+            "machine 64\nscratch 1 8\nkexec 1 4\nscratch 9 8",
+            Some((4, Reason::Place)),
+        ),
+        (
+            "machine 64\nscratch 1 8\nkexec 1 4\nclose s",
+            Some((4, Reason::Place)),
         ),
         (
             "machine 64\nscratch 1 8\nfail 0 dev0 freeze",
@@ -128,6 +134,24 @@ fn gives_the_first_reason_of_a_command(rt: HostRuntime) -> Result<(), Fail> {
         ("closefd", Some((5, Reason::Count))),
         ("closefd m/", Some((5, Reason::Name))),
         ("tell", Some((5, Reason::Later))),
+        ("device d dev0 16", Some((5, Reason::Later))),
+        (
+            "open s\nretrieve s 18446744073709551615 m\nfinish s\nfinish s",
+            None,
+        ),
+        ("open", Some((5, Reason::Count))),
+        ("open s/", Some((5, Reason::Name))),
+        ("retrieve s 7", Some((5, Reason::Count))),
+        ("retrieve s/ 7 m", Some((5, Reason::Name))),
+        (
+            "retrieve s 18446744073709551616 m/",
+            Some((5, Reason::Number)),
+        ),
+        ("retrieve s 7 m/", Some((5, Reason::Name))),
+        ("memfd m 0\nretrieve s 7 m", Some((6, Reason::Label))),
+        ("retrieve s 7 m\nmemfd m 0", Some((6, Reason::Label))),
+        ("finish s s", Some((5, Reason::Count))),
+        ("finish s/", Some((5, Reason::Name))),
         (
             "create nnnnnnnnnnnnnnnnnnnnnnnnnnnnnnnnnnnnnnnnnnnnnnnnnnnnnnnnnnnnnnnn",
             Some((5, Reason::Name)),
@@ -190,7 +214,17 @@ fn gives_the_first_reason_of_a_later_round(rt: HostRuntime) -> Result<(), Fail> 
             "memfd m 0\nround\nagent a\nmemfd m 0",
             Some((8, Reason::Label)),
         ),
-        ("round\nkexec 1 4", Some((6, Reason::Later))),
+        ("round\nkexec 1 4", None),
+        (
+            "kexec 18446744073709551615 16384\nround\nagent a\nopen s",
+            None,
+        ),
+        ("kexec 1 0", Some((5, Reason::Number))),
+        ("kexec 1 16385", Some((5, Reason::Number))),
+        ("kexec 18446744073709551616 1", Some((5, Reason::Number))),
+        ("kexec 1", Some((5, Reason::Count))),
+        ("kexec 1 4\nclose s", Some((6, Reason::Place))),
+        ("kexec 1 4\nagent a", Some((6, Reason::Place))),
     ];
     for (text, expected) in texts {
         let whole = format!(in rt.alloc(); "{HEAD}{text}")?;
@@ -232,6 +266,88 @@ fn numbers_commands_over_rounds(rt: HostRuntime) -> Result<(), Fail> {
     Ok(())
 }
 
+/// The blobs of the kexecs among some blocks.
+fn blobs(alloc: Global, blocks: &[Block]) -> Result<Vec<Blob>, AllocError> {
+    let mut blobs = Vec::new(alloc);
+    for block in blocks {
+        if let Block::Kexec(blob) = block {
+            blobs.push(*blob)?;
+        }
+    }
+    Ok(blobs)
+}
+
+/// Whether a command opens the session of this name.
+fn opens(command: Option<&Command>, session: &[u8]) -> bool {
+    match command {
+        Some(Command::Open(name)) => name.as_bytes() == session,
+        _ => false,
+    }
+}
+
+/// Whether a command takes the file of this token of a session and binds this label to it.
+fn retrieves(command: Option<&Command>, session: &[u8], number: u64, bound: &[u8]) -> bool {
+    match command {
+        Some(Command::Retrieve(name, token, label)) => {
+            name.as_bytes() == session && *token == Token(number) && label.as_bytes() == bound
+        }
+        _ => false,
+    }
+}
+
+/// Whether a command ends the incoming session of this name.
+fn finishes(command: Option<&Command>, session: &[u8]) -> bool {
+    match command {
+        Some(Command::Finish(name)) => name.as_bytes() == session,
+        _ => false,
+    }
+}
+
+#[test]
+fn reads_kexecs_and_what_comes_after_one(rt: HostRuntime) -> Result<(), Fail> {
+    let text =
+        b"kexec 18446744073709551615 16384\nround\nagent a\nopen s\nretrieve t 7 m\nfinish u\nkexec 3 1";
+    let Ok(script) = read(rt.alloc(), text, false) else {
+        assert!(rt; false, "the kexecs are refused");
+        return Ok(());
+    };
+    assert_eq!(rt; script.blocks.len(), 3);
+    let expected = [
+        Blob {
+            version: u64::MAX,
+            frames: 16384,
+        },
+        Blob {
+            version: 3,
+            frames: 1,
+        },
+    ];
+    let found = blobs(rt.alloc(), script.blocks.as_slice())?;
+    assert_eq!(rt; found.as_slice(), expected.as_slice());
+    let found = sections(rt.alloc(), script.blocks.as_slice())?;
+    assert_eq!(rt; found.as_slice(), [(AgentNo(1), 1, 3)].as_slice());
+    for block in script.blocks.as_slice() {
+        if let Block::Round(works) = block {
+            for work in works.as_slice() {
+                let commands = work.commands.as_slice();
+                assert!(rt;
+                    opens(commands.get(0), b"s".as_slice()),
+                    "the first command isn't open s"
+                );
+                assert!(rt;
+                    retrieves(commands.get(1), b"t".as_slice(), 7, b"m".as_slice()),
+                    "the second command isn't retrieve t 7 m"
+                );
+                assert!(rt;
+                    finishes(commands.get(2), b"u".as_slice()),
+                    "the third command isn't finish u"
+                );
+            }
+        }
+    }
+    Ok(())
+}
+
 /// A head with a line, so many times.
 fn with_lines(alloc: Global, line: &str, times: u32) -> Result<String, AllocError> {
     let mut text = String::from_str(alloc, HEAD)?;
@@ -242,12 +358,14 @@ fn with_lines(alloc: Global, line: &str, times: u32) -> Result<String, AllocErro
 }
 
 #[test]
-fn reads_4096_commands_and_64_rounds_and_no_more(rt: HostRuntime) -> Result<(), Fail> {
+fn reads_4096_commands_64_rounds_and_8_kexecs_and_no_more(rt: HostRuntime) -> Result<(), Fail> {
     let cases = [
         ("close s\n", 4096, None),
         ("close s\n", 4097, Some((4101, Reason::Limit))),
         ("round\n", 63, None),
         ("round\n", 64, Some((68, Reason::Limit))),
+        ("kexec 1 4\n", 8, None),
+        ("kexec 1 4\n", 9, Some((13, Reason::Limit))),
     ];
     for (line, times, expected) in cases {
         let text = with_lines(rt.alloc(), line, times)?;

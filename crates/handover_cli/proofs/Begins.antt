@@ -1,48 +1,33 @@
 -- How the blocks of a script that was read begin: on a cold kernel, and with their numbers in order.
-use Rattle.std.proofs.Common.{◌≡◌, ℕ, ◌+◌, ◌<◌, ◌≤◌, ◌^◌, Bool, true, false, ◌&&◌, ◌==◌, nat_le, List, [], ◌∷◌, ◌++◌, length, replicate, slice_index_or, refl, sym, ap, subst, ◌∙◌, arith, append_assoc, IsTrue, zero, suc}
-use Rattle.std.specs.Prelude.{Option, None, Some, slice_get, if◌then◌else◌}
+use Rattle.std.proofs.Common.{◌≡◌, ℕ, ◌+◌, ◌<◌, ◌≤◌, ◌^◌, Bool, true, false, ◌==◌, nat_le, List, [], ◌∷◌, ◌++◌, length, replicate, slice_index_or, refl, sym, ap, subst, ◌∙◌, arith, append_assoc, IsTrue, zero, suc}
+use Rattle.std.specs.Prelude.{Option, Some, slice_get, if◌then◌else◌}
 use Rattle.std.specs.FinMap as finmap
 use Rattle.std.specs.List.{list_all}
 use Rattle.std.proofs.lemmas.Bool.Decides.{nat_tests}
 use Rattle.ho_base.specs.ShapeRule.{Layout}
-use Rattle.ho_base.specs.declared.limits.TheConstants.{AGENTS, COMMANDS}
+use Rattle.ho_base.specs.declared.limits.TheConstants.{AGENTS, COMMANDS, KEXECS, MAX_FRAMES}
 use Rattle.ho_events.specs.History.{on, greatest_stamp}
-use Rattle.ho_events.specs.Script.Rules.{sections_of, commands_of, are_numbered, is_numbered, is_built_script, is_built, is_built_block, is_single_script, is_single_block, is_agent_section, is_small_script, total_commands}
-use Rattle.ho_events.specs.declared.entry.Entry.{Entry}
+use Rattle.ho_events.specs.Script.Rules.{sections_of, commands_of, are_numbered, is_numbered, is_built_script, is_built, is_built_block, is_single_script, is_single_block, is_alone, kexecs_in, is_agent_section, is_small_script, total_commands}
 use Rattle.ho_events.specs.declared.script.AgentWork.{AgentWork}
 use Rattle.ho_events.specs.declared.script.Block.{Block}
 use Rattle.ho_events.specs.declared.script.Block.TheVariants.{Round, Kexec}
 use Rattle.ho_events.specs.declared.script.Script.{Script}
-use Rattle.ho_world.specs.World.{State, World, cold}
+use Rattle.ho_world.specs.World.{State, World, cold, handler_at}
 use Rattle.ho_world.specs.Entries.{in_kernel, beginning}
 use Rattle.ho_world.specs.Legal.{labels_now, labeling_from}
-use Rattle.ho_world.specs.Sequences.{Labels}
-use Rattle.ho_world.proofs.Fronts.{and_left, and_right, eq_true}
+use Rattle.ho_world.proofs.Fronts.{and_left, and_right, all_follow, eq_true}
 use Rattle.ho_world.proofs.Rising.{rest, numbered_rises}
 use Rattle.ho_world.proofs.Rounds.{numbered_rounds}
-use Rattle.machine_core.specs.Kernels.{KernelValue, if_built, cold_begun, begun_in, histories_in}
+use Rattle.machine_core.specs.Kernels.{KernelValue, cold_begun, begun_in, histories_in}
 use Rattle.machine_core.specs.LabelsShown.{agent_count}
-use Rattle.machine_core.specs.Objects.{Spot, PoolSpot, RegistrySpot, SessionSpot, FileSpot, NoSpot, spot_at}
-use Rattle.handover_cli.specs.Rounds.{IsAfter, labels_at}
+use Rattle.machine_core.specs.Objects.{spot_at}
+use Rattle.handover_cli.specs.Rounds.{IsAfter}
 use Rattle.handover_cli.specs.Run.{OnCold}
-use Rattle.handover_cli.specs.Works.{CanDo, CanRun, IsFit}
-
--- what an object that is built begins with
-built_is : (spot : Spot) (x s : State) → if_built spot x ≡ Some s → x ≡ s
-built_is PoolSpot x s h = cc
-built_is RegistrySpot x s h = cc
-built_is SessionSpot x s h = cc
-built_is FileSpot x s h = cc
-built_is NoSpot x s h = absurd cc
-
-all_same : (n a : ℕ) (x : Labels) → slice_index_or (replicate n x) a x ≡ x
-all_same zero a x = refl
-all_same (suc n) zero x = refl
-all_same (suc n) (suc a) x = all_same n a x
-
-how_many : (n : ℕ) (x : Labels) → length (replicate n x) ≡ n
-how_many zero x = refl
-how_many (suc n) x = ap suc (how_many n x)
+use Rattle.handover_cli.specs.Works.{CanDo, CanRun}
+use Rattle.handover_cli.proofs.KernelWorlds.{built_is, cold_quiet, no_handler, all_same, how_many}
+use Rattle.kexec_laws.specs.Kexecs.{is_agent, has_agents}
+use Rattle.kexec_laws.proofs.KexecNumbers.{numbered_kexecs}
+use Rattle.ho_base.specs.Objects.{handler_no}
 
 none_on : (o k : ℕ) → on o (in_kernel k []) ≡ []
 unfolding on in_kernel
@@ -62,15 +47,18 @@ first_begins start = refl
 
 -- a cold kernel is as no entries say
 pub cold_after : (shape : Layout) (blocks : List Block) (kernel : KernelValue) → kernel.number ≡ 0 → kernel.shape ≡ shape → begun_in kernel.objects ≡ cold_begun shape → ((n : ℕ) → histories_in kernel.objects n ≡ [])
-    → kernel.labels ≡ replicate agent_count finmap.empty → kernel.base ≡ 0 → IsAfter (cold kernel.shape) blocks [] 0 kernel
-cold_after shape blocks kernel number same begun histories labels base = record {
+    → kernel.labels ≡ replicate agent_count finmap.empty → kernel.base ≡ 0 → kernel.updates ≡ 0 → IsAfter (cold kernel.shape) blocks [] 0 kernel
+cold_after shape blocks kernel number same begun histories labels base updates = record {
   number = number;
+  updates = updates ∙ ap (λ (w : World). w.number) (sym (first_begins (cold kernel.shape)));
   due = refl;
   begun = λ o s is. ap (λ (w : World). w.at o) (first_begins (cold kernel.shape) ∙ ap cold same) ∙ built_is (spot_at o) ((cold shape).at o) s (ap (λ (f : ℕ → Option State). f o) (sym begun) ∙ is);
   histories = λ i o. point o i;
   base = base ∙ sym (none_stamped 0);
   labels = λ a. ap (λ ls. slice_index_or ls a finmap.empty) labels ∙ all_same agent_count a finmap.empty ∙ sym (none_bound blocks 0 a);
   lists = ap length labels ∙ how_many agent_count finmap.empty;
+  handlers = λ n less. ap (λ (w : World). (handler_at w n).outgoing.files) (first_begins (cold kernel.shape)) ∙ cold_quiet kernel.shape n less;
+  unbuilt = λ n less. ap (λ (f : ℕ → Option State). f (handler_no n)) begun ∙ no_handler n less ((cold shape).at (handler_no n));
 }
   where
     point : (o : ℕ) → histories_in kernel.objects o ≡ on o (in_kernel 0 [])
@@ -128,7 +116,7 @@ small_numbers blocks b work numbered small is =
 le_true : (x y : ℕ) → IsTrue (nat_le x y) → x ≤ y
 le_true x y h = grind (arith, nat_tests)
 
--- a round of at most one section, of an agent that there may be, can be done
+-- a kexec, and a round of at most one section, of an agent that there may be, can be done
 can_do : (block : Block) → ((work : AgentWork) → block ≡ Round (work ∷ []) → work.first + length work.commands < 2 ^ 32) → IsTrue (is_single_block block) → IsTrue (is_built_block block) → CanDo block
 can_do (Round []) numbers single built = tt
 can_do (Round (work ∷ [])) numbers single built =
@@ -143,13 +131,23 @@ can_do (Round (work ∷ [])) numbers single built =
     }
 can_do (Round (work ∷ more ∷ works)) numbers single built =
     absurd omega (arith, le_true (length (work ∷ more ∷ works)) 1 (and_left (nat_le (length (work ∷ more ∷ works)) 1) _ single))
-can_do (Kexec blob) numbers single built = absurd cc
+can_do (Kexec blob) numbers single built = record {
+  least = le_true 1 blob.frames (and_left (nat_le 1 blob.frames) _ built);
+  most = le_true blob.frames MAX_FRAMES (and_right (nat_le 1 blob.frames) _ built);
+}
+
+-- no round has an agent 0
+with_agents : (block : Block) → IsTrue (is_single_block block) → IsTrue (has_agents block)
+with_agents (Round works) single = all_follow is_agent_section is_agent works (λ w h. and_left (nat_le 1 w.agent.0) _ h) (and_right (nat_le (length works) 1) _ single)
+with_agents (Kexec blob) single = refl
 
 -- the blocks of a script that was read can be run
 pub can_run : (script : Script) → IsTrue (is_built_script script) → IsTrue (is_numbered script) → IsTrue (is_single_script script) → IsTrue (is_small_script script) → CanRun script.blocks
 can_run script built numbered single small = record {
   rising = numbered_rises script numbered;
   rounds = λ b work above is. numbered_rounds script b work numbered above is;
+  kexecs = λ b blob is. numbered_kexecs script.blocks b blob (all_follow is_single_block has_agents script.blocks with_agents singles) is;
+  few = le_true (kexecs_in script.blocks) KEXECS (and_right (list_all is_alone script.blocks) _ (and_right (nat_le (total_commands (sections_of script.blocks)) COMMANDS) _ small));
   each = λ b block is. can_do block
       (λ work same. small_numbers script.blocks b work numbered (le_true (total_commands (sections_of script.blocks)) COMMANDS (and_left (nat_le (total_commands (sections_of script.blocks)) COMMANDS) _ small)) (is ∙ ap (λ x. Some x) same))
       (all_at is_single_block script.blocks b block is singles)

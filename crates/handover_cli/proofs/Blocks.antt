@@ -1,18 +1,18 @@
 -- A block more: what one agent did alone, or that nobody worked, takes the history and the kernel on.
-use Rattle.std.proofs.Common.{◌≡◌, ◌≢◌, ℕ, ◌+◌, ◌<◌, Bool, true, false, not, ◌&&◌, ◌==◌, max, nat_lt, nat_le, List, [], ◌∷◌, ◌++◌, length, fold, cond, filter, refl, sym, ap, subst, ◌∙◌, arith, IsTrue, is_some}
-use Rattle.std.specs.Prelude.{Option, None, Some, count_by, slice_get}
+use Rattle.std.proofs.Common.{◌≡◌, ◌≢◌, ℕ, ◌+◌, ◌<◌, Bool, true, false, not, ◌&&◌, ◌==◌, max, nat_lt, List, [], ◌∷◌, ◌++◌, length, fold, cond, refl, sym, ap, subst, ◌∙◌, arith, IsTrue, is_some}
+use Rattle.std.specs.Prelude.{Option, Some, count_by, slice_get}
 use Rattle.std.specs.List.{list_all}
 use Rattle.std.proofs.lemmas.Bool.Decides.{nat_tests}
 use Rattle.std.proofs.lemmas.List.{append-nil}
-use Rattle.ho_events.specs.History.{on, run_from, greatest_stamp, last_stamp}
+use Rattle.ho_events.specs.History.{on, greatest_stamp, last_stamp}
 use Rattle.ho_events.specs.declared.entry.Entry.{Entry}
 use Rattle.ho_events.specs.declared.script.AgentWork.{AgentWork}
 use Rattle.ho_events.specs.declared.script.Block.{Block}
 use Rattle.ho_events.specs.declared.script.Block.TheVariants.{Round, Kexec}
 use Rattle.ho_events.specs.declared.slip.At.{At}
-use Rattle.ho_world.specs.World.{State, World, run}
+use Rattle.ho_world.specs.World.{World, run, after, handler_at}
 use Rattle.ho_world.specs.Alone.{IsRoundOf, first_at, IsAlone, GivesRound}
-use Rattle.ho_world.specs.Entries.{in_kernel, beginning, is_own, is_ok, ends_kernel, all_pairs}
+use Rattle.ho_world.specs.Entries.{in_kernel, beginning, world_of, is_own, is_ok, ends_kernel, all_pairs}
 use Rattle.ho_world.specs.Legal.{kernel_due, labels_now}
 use Rattle.ho_world.specs.Logs.{HasDone, paired_on}
 use Rattle.ho_world.specs.Sequences.{Labels}
@@ -29,10 +29,14 @@ use Rattle.ho_world.proofs.Step.{one_more}
 use Rattle.ho_world.proofs.Went.{Went, went}
 use Rattle.machine_core.specs.Agents.{state_in}
 use Rattle.machine_core.specs.Objects.{Start}
-use Rattle.machine_core.specs.Kernels.{KernelValue, IsRunAt, start_in, history_in, object_at, starts_in, begun_in, histories_in}
-use Rattle.machine_core.specs.declared.object.Object.{Object}
+use Rattle.machine_core.specs.Kernels.{KernelValue, object_at, starts_in, begun_in, histories_in}
 use Rattle.handover_cli.specs.Rounds.{WorkedAlone, IsAfter, labels_at, begins_at}
-use Rattle.handover_cli.specs.Works.{CanDo, CanRun, DidBlock, IsFit}
+use Rattle.handover_cli.specs.Works.{CanDo, CanRun, DidBlock, FollowsAs, due_after}
+use Rattle.handover_cli.proofs.KernelWorlds.{no_history, ran}
+use Rattle.handover_cli.proofs.KexecBlocks.{GoesOn, kexec_through, kexec_done, world_before, world_now}
+use Rattle.machine_core.specs.Worlds.{IsWorldOf}
+use Rattle.kexec_laws.specs.Kexecs.{kexec_number}
+use Rattle.ho_base.specs.Objects.{handler_no}
 
 -- entries that end no kernel count for none
 abbrev counted : (Entry → Bool) → ℕ → Entry → ℕ
@@ -66,21 +70,6 @@ unfolding all_pairs
 pairs_weaker [] h = refl
 pairs_weaker (x ∷ xs) h =
     and_both (list_all (rises x) xs) _ (all_weaker x xs (and_left (list_all (goes_before x) xs) _ h)) (pairs_weaker xs (and_right (list_all (goes_before x) xs) _ h))
-
--- a place without a start is without a history
-no_history : (x : Option Object) → start_in x ≡ None → history_in x ≡ []
-no_history None h = refl
-no_history (Some o) h = absurd cc
-
-no_run : (s : State) (h : List Entry) → h ≡ [] → IsTrue (is_some (run s h))
-unfolding run_from
-no_run s [] e = refl
-no_run s (x ∷ xs) e = absurd cc
-
--- a history of an object that began so is a run
-ran : (at : State) (s : Option Start) (h : List Entry) → ((x : State) → state_in s ≡ Some x → at ≡ x) → (s ≡ None → h ≡ []) → IsRunAt s h → IsTrue (is_some (run at h))
-ran at None h is none r = no_run at h (none refl)
-ran at (Some s) h is none r = subst (λ x. IsTrue (is_some (run x h))) (sym (is s.state refl)) r
 
 module _ (start : World) (blocks : List Block) (es new : List Entry) (b k : ℕ) (kernel kernel' : KernelValue) (work : AgentWork)
     (numbers : HasRisingNumbers blocks) (r : IsRoundOf blocks b work) (t : IsThrough start blocks es b k) (above : 0 < work.agent.0)
@@ -209,34 +198,82 @@ module _ (start : World) (blocks : List Block) (es new : List Entry) (b k : ℕ)
   pub worked_after : IsAfter start blocks (es ++ new) k kernel'
   worked_after = record {
     number = w.number ∙ here.number;
+    updates = w.updates ∙ here.updates ∙ ap (λ (x : World). x.number) (sym begins_now);
     due = due_now;
     begun = λ o s is. ap (λ (x : World). x.at o) begins_now ∙ here.begun o s (ap (λ (f : ℕ → Option Start). state_in (f o)) (sym w.starts) ∙ is);
     histories = λ i o. point o i;
     base = base_now;
     labels = labels_after;
     lists = w.lists ∙ here.lists;
+    handlers = λ n less. ap (λ (x : World). (handler_at x n).outgoing.files) begins_now ∙ here.handlers n less;
+    unbuilt = λ n less. ap (λ (f : ℕ → Option Start). state_in (f (handler_no n))) w.starts ∙ here.unbuilt n less;
   }
     where
       point : (o : ℕ) → histories_in kernel'.objects o ≡ on o (in_kernel k (es ++ new))
       point o = all_on o ∙ ap (on o) (sym kernel_now)
 
--- a block that was done: the history goes through it, and the kernel is as the longer history says
-pub record GoesOn (start : World) (blocks : List Block) (es new : List Entry) (b : ℕ) (kernel : KernelValue) : Type 0 where
-  pub through : IsThrough start blocks (es ++ new) (b + 1) 0
-  pub after : IsAfter start blocks (es ++ new) 0 kernel
+-- a block that was done: the history goes through it
+pub block_through : (start : World) (blocks : List Block) (es new : List Entry) (b : ℕ) (kernel old : KernelValue) (block : Block) (ended : Bool)
+    → CanRun blocks → slice_get blocks b ≡ Some block → CanDo block → IsThrough start blocks es b kernel.number → IsAfter start blocks es kernel.number kernel → DidBlock (kexec_number blocks b) block kernel old new ended
+    → IsThrough start blocks (es ++ new) (b + 1) (due_after ended old.number)
+block_through start blocks es new b kernel old (Round []) ended runs is can t here did =
+    let same : kernel.number ≡ due_after ended old.number = ap (λ (k : KernelValue). k.number) (sym did.0.0) ∙ ap (λ e. due_after e old.number) (sym did.1) in
+    subst (λ k. IsThrough start blocks (es ++ new) (b + 1) k) same
+    (one_more start blocks es new b kernel.number t (subst (λ xs. IsNext start blocks es xs b kernel.number) (sym did.0.1) (idle_is_next start blocks es b kernel.number is t)))
+block_through start blocks es new b kernel old (Round (work ∷ [])) ended runs is can t here did =
+    let same : kernel.number ≡ due_after ended old.number = sym did.0.number ∙ ap (λ e. due_after e old.number) (sym did.1) in
+    subst (λ k. IsThrough start blocks (es ++ new) (b + 1) k) same
+    (one_more start blocks es new b kernel.number t (worked_next start blocks es new b kernel.number kernel old work runs.rising (runs.rounds b work can.above is) t can.above here did.0))
+block_through start blocks es new b kernel old (Round (work ∷ more ∷ works)) ended runs is can t here did = absurd can
+block_through start blocks es new b kernel old (Kexec blob) ended runs is can t here did =
+    kexec_through start blocks es new b kernel old (kexec_number blocks b) blob ended runs.rising (runs.kexecs b blob is) t here did
 
-pub block_done : (start : World) (blocks : List Block) (es new : List Entry) (b : ℕ) (kernel kernel' : KernelValue) (block : Block)
-    → CanRun blocks → slice_get blocks b ≡ Some block → CanDo block → IsThrough start blocks es b 0 → IsAfter start blocks es 0 kernel → DidBlock block kernel kernel' new
-    → GoesOn start blocks es new b kernel'
-block_done start blocks es new b kernel kernel' (Round []) runs is can t here did = record {
-  through = one_more start blocks es new b 0 t (subst (λ xs. IsNext start blocks es xs b 0) (sym did.1) (idle_is_next start blocks es b 0 is t));
-  after = subst (λ xs. IsAfter start blocks xs 0 kernel') (sym (append-nil es) ∙ ap (λ xs. es ++ xs) (sym did.1)) (subst (λ (k : KernelValue). IsAfter start blocks es 0 k) (sym did.0) here);
-}
-block_done start blocks es new b kernel kernel' (Round (work ∷ [])) runs is can t here did =
-    let round : IsRoundOf blocks b work = runs.rounds b work can.above is in
+-- a kernel that didn't end follows itself
+runs_on : (ended : Bool) (old kernel' : KernelValue) → ended ≡ false → FollowsAs ended old kernel' → kernel' ≡ old
+runs_on false old kernel' e follows = follows
+runs_on true old kernel' e follows = absurd cc
+
+-- and the kernel that follows is as the longer history says
+pub block_done : (start : World) (blocks : List Block) (es new : List Entry) (b : ℕ) (kernel old kernel' : KernelValue) (block : Block) (ended : Bool)
+    → CanRun blocks → slice_get blocks b ≡ Some block → CanDo block → IsThrough start blocks es b kernel.number → IsAfter start blocks es kernel.number kernel → DidBlock (kexec_number blocks b) block kernel old new ended → FollowsAs ended old kernel'
+    → GoesOn start blocks es new b block kernel kernel'
+block_done start blocks es new b kernel old kernel' (Round []) ended runs is can t here did follows =
+    let whole : kernel' ≡ kernel = runs_on ended old kernel' did.1 follows ∙ did.0.0 in
+    let same : kernel'.number ≡ kernel.number = ap (λ (k : KernelValue). k.number) whole in
     record {
-      through = one_more start blocks es new b 0 t (worked_next start blocks es new b 0 kernel kernel' work runs.rising round t can.above here did);
-      after = worked_after start blocks es new b 0 kernel kernel' work runs.rising round t can.above here did;
+      through = subst (λ (k : KernelValue). IsThrough start blocks (es ++ new) (b + 1) k.number) (sym whole)
+          (one_more start blocks es new b kernel.number t (subst (λ xs. IsNext start blocks es xs b kernel.number) (sym did.0.1) (idle_is_next start blocks es b kernel.number is t)));
+      after = subst (λ xs. IsAfter start blocks xs kernel'.number kernel') (sym (append-nil es) ∙ ap (λ xs. es ++ xs) (sym did.0.1)) (subst (λ (k : KernelValue). IsAfter start blocks es k.number k) (sym whole) here);
+      few = omega (arith, same);
     }
-block_done start blocks es new b kernel kernel' (Round (work ∷ more ∷ works)) runs is can t here did = absurd can
-block_done start blocks es new b kernel kernel' (Kexec blob) runs is can t here did = absurd can
+block_done start blocks es new b kernel old kernel' (Round (work ∷ [])) ended runs is can t here did follows =
+    let round : IsRoundOf blocks b work = runs.rounds b work can.above is in
+    let whole : kernel' ≡ old = runs_on ended old kernel' did.1 follows in
+    let same : old.number ≡ kernel.number = did.0.number in
+    let number_same : kernel'.number ≡ kernel.number = ap (λ (k : KernelValue). k.number) whole ∙ same in
+    record {
+      through = subst (λ k. IsThrough start blocks (es ++ new) (b + 1) k) (sym number_same)
+          (one_more start blocks es new b kernel.number t (worked_next start blocks es new b kernel.number kernel old work runs.rising round t can.above here did.0));
+      after = subst (λ (k : KernelValue). IsAfter start blocks (es ++ new) k.number k) (sym whole)
+          (subst (λ k. IsAfter start blocks (es ++ new) k old) (sym same) (worked_after start blocks es new b kernel.number kernel old work runs.rising round t can.above here did.0));
+      few = omega (arith, number_same);
+    }
+block_done start blocks es new b kernel old kernel' (Round (work ∷ more ∷ works)) ended runs is can t here did follows = absurd can
+block_done start blocks es new b kernel old kernel' (Kexec blob) ended runs is can t here did follows =
+    kexec_done start blocks es new b kernel old kernel' (kexec_number blocks b) blob ended runs.rising (runs.kexecs b blob is) t here did follows
+
+-- the world of the kernel as the block's entries left it
+pub block_world : (start : World) (blocks : List Block) (es new : List Entry) (b : ℕ) (kernel old : KernelValue) (block : Block) (ended : Bool)
+    → CanRun blocks → slice_get blocks b ≡ Some block → CanDo block → IsThrough start blocks es b kernel.number → IsAfter start blocks es kernel.number kernel → DidBlock (kexec_number blocks b) block kernel old new ended
+    → (w : World) × IsWorldOf old w
+block_world start blocks es new b kernel old (Round []) ended runs is can t here did =
+    (world_of start es kernel.number, subst (λ (k : KernelValue). IsWorldOf k (world_of start es kernel.number)) (sym did.0.0) (world_before start blocks es kernel.number kernel here))
+block_world start blocks es new b kernel old (Round (work ∷ [])) ended runs is can t here did = (
+  world_of start (es ++ new) kernel.number,
+  world_before start blocks (es ++ new) kernel.number old (worked_after start blocks es new b kernel.number kernel old work runs.rising (runs.rounds b work can.above is) t can.above here did.0),
+)
+block_world start blocks es new b kernel old (Round (work ∷ more ∷ works)) ended runs is can t here did = absurd can
+block_world start blocks es new b kernel old (Kexec blob) ended runs is can t here did = (
+  after (beginning start es kernel.number) (in_kernel kernel.number es ++ new),
+  world_now start blocks es new b kernel old (kexec_number blocks b) blob did.outcome runs.rising (runs.kexecs b blob is) t here did.still did.did,
+)

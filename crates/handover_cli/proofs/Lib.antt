@@ -7,3 +7,6 @@ pub mod Rounds
 pub mod Shown
 pub mod WorkedAlone
 pub mod Written
+pub mod KernelWorlds
+pub mod KexecBlocks
+pub mod NextKernels

@@ -6,7 +6,9 @@ use Rattle.std.proofs.lemmas.Bool.Decides.{nat_tests}
 use Rattle.std.proofs.lemmas.List.{append-nil, map-append}
 use Rattle.ho_events.specs.History.{on, last_stamp}
 use Rattle.ho_events.specs.declared.entry.Entry.{Entry}
+use Rattle.ho_events.specs.Script.Rules.{is_built}
 use Rattle.ho_events.specs.declared.command.Command.{Command}
+use Rattle.ho_events.specs.declared.command.Command.TheVariants.{Open, Retrieve, Finish}
 use Rattle.ho_events.specs.declared.reply.Reply.{Reply}
 use Rattle.ho_events.specs.declared.slip.At.{At}
 use Rattle.ho_world.specs.World.{State}
@@ -14,6 +16,7 @@ use Rattle.ho_world.specs.Logs.{Deed, Paired, AreDone, HasDone, deeds_of}
 use Rattle.ho_world.specs.Sequences.{Labels}
 use Rattle.ho_world.proofs.Fronts.{and_both, all_append, all_follow}
 use Rattle.ho_world.proofs.Rises.{on_parts}
+use Rattle.luo_incoming.specs.Done.{is_done}
 use Rattle.machine_core.specs.Agents.{Agent, begun, state_in}
 use Rattle.machine_core.specs.Commands.{Comes}
 use Rattle.machine_core.specs.Objects.{Start}
@@ -156,3 +159,10 @@ pub item_at : {T : Type 0} (xs : List T) (i : ℕ) (x : T) → i < length xs →
 item_at [] i x below is = absurd omega (arith, below)
 item_at (y ∷ ys) zero x below is = ap (λ z. Some z) (sym is)
 item_at (y ∷ ys) (suc i) x below is = item_at ys i x (omega (arith, below)) is
+
+-- a built command is one that is done
+pub built_is_done : (c : Command) → IsTrue (is_built c) → IsTrue (is_done c)
+built_is_done (Open name) h = refl
+built_is_done (Retrieve name t label) h = refl
+built_is_done (Finish name) h = refl
+built_is_done c h = h

@@ -1,6 +1,6 @@
 -- What an agent did alone, as the kernel shows it afterwards.
-use Rattle.std.proofs.Common.{◌≡◌, ◌≢◌, ℕ, ◌+◌, ◌<◌, max, nat_le, List, [], ◌++◌, length, map, refl, ap, sym, ◌∙◌, subst, arith, IsTrue, slice_index_or, slice_set, get_or-set_same, get_or-set_other}
-use Rattle.std.specs.Prelude.{Option, None, Some}
+use Rattle.std.proofs.Common.{◌≡◌, ◌≢◌, ℕ, ◌+◌, ◌<◌, max, nat_le, List, [], ◌++◌, length, map, ap, sym, ◌∙◌, subst, arith, IsTrue, slice_index_or, slice_set, get_or-set_same, get_or-set_other}
+use Rattle.std.specs.Prelude.{Option, Some}
 use Rattle.std.specs.FinMap as finmap
 use Rattle.std.specs.List.{list_all}
 use Rattle.std.proofs.lemmas.List.{append-nil, length-set}
@@ -122,9 +122,13 @@ module _ (kernel k0 k1 k2 : KernelValue) (work : AgentWork) (a a' : Agent) (entr
       ∙ get_or-set_other (slice_set kernel.labels work.agent.0 finmap.empty) work.agent.0 n later finmap.empty other
       ∙ get_or-set_other kernel.labels work.agent.0 n finmap.empty finmap.empty other
 
+  updates_is : k1.updates ≡ kernel.updates
+  updates_is = ap (λ c. c.updates) anchor' ∙ ap (λ c. c.updates) (same.anchor ∙ anchor) ∙ ap (λ (k : KernelValue). k.updates) out
+
   pub worked_alone : WorkedAlone kernel work k2 entries
   worked_alone = record {
     number = ap (λ (k : KernelValue). k.number) back ∙ number_is;
+    updates = ap (λ (k : KernelValue). k.updates) back ∙ updates_is;
     starts = ap starts_in objects_back ∙ starts_are;
     histories = ap histories_in objects_back ∙ histories_are;
     runs = λ n. subst (λ os. IsRunAt (starts_in os n) (histories_in os n)) (sym objects_back) (runs n);

@@ -1,13 +1,14 @@
 -- What an agent does that has a kernel for itself, and what a kernel is after entries.
-use Rattle.std.specs.Prelude.{◌≡◌, ◌≢◌, ℕ, max, List, [], length, slice_index_or, Option, Some}
+use Rattle.std.specs.Prelude.{◌≡◌, ◌≢◌, ℕ, ◌<◌, max, List, [], length, slice_index_or, Option, None, Some}
 use Rattle.std.specs.FinMap as finmap
+use Rattle.ho_base.specs.Objects.{handler_no}
 use Rattle.ho_events.specs.History.{on, greatest_stamp, last_stamp}
 use Rattle.ho_events.specs.declared.command.Command.{Command}
 use Rattle.ho_events.specs.declared.entry.Entry.{Entry}
 use Rattle.ho_events.specs.declared.script.AgentWork.{AgentWork}
 use Rattle.ho_events.specs.declared.script.Block.{Block}
 use Rattle.ho_events.specs.declared.slip.At.{At}
-use Rattle.ho_world.specs.World.{State, World}
+use Rattle.ho_world.specs.World.{State, World, handler_at}
 use Rattle.ho_world.specs.Entries.{in_kernel, beginning}
 use Rattle.ho_world.specs.Legal.{kernel_due, labels_now}
 use Rattle.ho_world.specs.Logs.{Paired, HasDone, grown, paired_on}
@@ -41,6 +42,7 @@ begins_at kernel work = record { kernel = kernel.number; agent = work.agent; com
 -- the entries on it and still a run of its steps, and of the labels only the agent's own have changed.
 pub record WorkedAlone (kernel : KernelValue) (work : AgentWork) (kernel' : KernelValue) (entries : List Entry) : Type 0 where
   pub number : kernel'.number ≡ kernel.number
+  pub updates : kernel'.updates ≡ kernel.updates
   pub starts : starts_in kernel'.objects ≡ starts_in kernel.objects
   pub histories : histories_in kernel'.objects ≡ grown (histories_in kernel.objects) entries
   pub runs : (n : ℕ) → IsRunAt (starts_in kernel'.objects n) (histories_in kernel'.objects n)
@@ -51,12 +53,16 @@ pub record WorkedAlone (kernel : KernelValue) (work : AgentWork) (kernel' : Kern
       (labels_at kernel' work.agent.0) (paired_on (begun_in kernel.objects) (histories_in kernel.objects) [] entries)
 
 -- A kernel is as the entries `es` say: it is kernel k, its objects began as that kernel does, and their histories, the
--- greatest stamp and each agent's labels are those of the entries.
+-- greatest stamp and each agent's labels are those of the entries. It has no handlers so far: none is built, and none of
+-- its world has an outgoing file.
 pub record IsAfter (start : World) (blocks : List Block) (es : List Entry) (k : ℕ) (kernel : KernelValue) : Type 0 where
   pub number : kernel.number ≡ k
+  pub updates : kernel.updates ≡ (beginning start es k).number
   pub due : kernel_due es ≡ k
   pub begun : (o : ℕ) (s : State) → begun_in kernel.objects o ≡ Some s → (beginning start es k).at o ≡ s
   pub histories : histories_in kernel.objects ≡ (λ o. on o (in_kernel k es))
   pub base : kernel.base ≡ greatest_stamp (in_kernel k es)
   pub labels : (a : ℕ) → labels_at kernel a ≡ labels_now blocks k a es
   pub lists : length kernel.labels ≡ agent_count
+  pub handlers : (n : ℕ) → n < 4 → (handler_at (beginning start es k) n).outgoing.files ≡ 0
+  pub unbuilt : (n : ℕ) → n < 4 → begun_in kernel.objects (handler_no n) ≡ None

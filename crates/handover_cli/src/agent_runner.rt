@@ -14,7 +14,8 @@ use ho_events::command::Command;
 use ho_events::entry::Entry;
 use ho_events::script::AgentWork;
 use ho_events::slip::At;
-use luo_calls::{Outcome, do_command};
+use luo_calls::Outcome;
+use luo_incoming::do_command;
 use machine_core::{Kernel, Labels, PlainReach, Reach};
 use phys_frames::Folio;
 use std::alloc::Global;
@@ -24,6 +25,7 @@ use std::alloc::Global;
 /// # Errors
 ///
 /// The folios that were in hand when a command stopped in the middle.
+#[tactic(auto, using(crate::proofs::Rounds::built_is_done))]
 pub fn do_commands<R: Reach>(
     alloc: Global,
     reach: &mut R,

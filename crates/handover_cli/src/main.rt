@@ -2,6 +2,7 @@
 #![tactic(auto)]
 
 mod agent_runner;
+mod rebooting;
 mod run;
 #[cfg(test)]
 mod tests;

@@ -1,9 +1,10 @@
 //! Runs a script: reads it, does its work and writes its history.
 
-ghost use Rattle.std.specs.Prelude.{◌≡◌, ◌⊎◌, IsTrue, IfOk, IfErr, IfSome, MatchOption, List, [], option_map, map, length, ◌<◌, ◌≤◌, is_some, Some, None, string_bytes};
+ghost use Rattle.std.specs.Prelude.{◌≡◌, ◌⊎◌, IsTrue, IfOk, IfErr, IfSome, MatchOption, List, [], ◌∷◌, option_map, map, length, ◌<◌, ◌≤◌, is_some, Some, None, string_bytes};
 ghost use Rattle.ho_io.specs.Told.{Rose, behind, with_item, IsOneOf};
 ghost use Rattle.ho_io.specs.declared.host.Way.TheVariants.{Open};
-ghost use Rattle.ho_events.specs.Script.Rules.{is_built_script, is_numbered, is_single_script, is_small_script};
+ghost use Rattle.ho_events.specs.declared.script.Block.TheVariants.{Round};
+ghost use Rattle.ho_events.specs.Script.Rules.{kexecs_in, is_built_script, is_numbered, is_single_script, is_small_script};
 ghost use Rattle.ho_events.specs.Text.{text_of};
 ghost use Rattle.ho_world.specs.World.{cold};
 ghost use Rattle.machine_core.specs.LabelsShown.{agent_count};
@@ -13,14 +14,16 @@ ghost use Rattle.handover_cli.specs.Due.{WroteFront, WritesPart, WritesPartFor, 
 ghost use Rattle.handover_cli.specs.Asked.{AsksOnly, Opened};
 ghost use Rattle.handover_cli.specs.Rounds.{IsAfter};
 ghost use Rattle.handover_cli.specs.Words.{fits_run, is_file_name};
-ghost use Rattle.handover_cli.specs.Works.{CanDo, CanRun, DidBlock};
+ghost use Rattle.handover_cli.specs.Works.{CanDo, CanRun, DidBlock, DidRound};
+ghost use Rattle.freeze_path.specs.Freezes.{IsOfKernel};
 
 use crate::agent_runner::{end_kernel, run_alone};
+use crate::rebooting::{BlockDone, end_block, freeze_kernel, go_on};
 use ho_base::limits::SCRIPT_BYTES;
 use ho_base::numbers::NoMemory;
 use ho_events::entry::Entry;
 use ho_events::line::Reason;
-use ho_events::script::{Block, Script};
+use ho_events::script::{AgentWork, Block, Script};
 use ho_events::text::text;
 use ho_io::{Host, ReadError, put_all, read_all};
 use machine_core::Kernel;
@@ -48,22 +51,64 @@ pub enum Status {
     WriteFault,
 }
 
-/// Does a block on a kernel. It gives the kernel after it, and the block's entries.
+/// Does a round of at most one agent on a kernel.
 ///
 /// # Errors
 ///
 /// [`NoMemory`] where memory of the host was wanted. The kernel's memory is given back then.
-fn run_block(alloc: Global, kernel: Kernel, block: &Block) -> Result<(Kernel, Vec<Entry>), NoMemory>
+fn run_round(alloc: Global, kernel: Kernel, works: &[AgentWork]) -> Result<BlockDone, NoMemory>
+    requires lists { length kernel.labels ≡ agent_count }
+    requires round { CanDo (Round works.now) }
+    ensures done { IfOk result (λ d. DidRound works.now kernel d.kernel d.entries.items) }
+    ensures frozen { IfOk result (λ d. d.frozen ≡ None) }
+{
+    match works {
+        [] => Ok(BlockDone {
+            kernel,
+            entries: Vec::new(alloc),
+            frozen: None,
+        }),
+        [work, ..] => {
+            let (kernel, entries) = run_alone(alloc, kernel, work)?;
+            Ok(BlockDone {
+                kernel,
+                entries,
+                frozen: None,
+            })
+        }
+    }
+}
+
+/// Does a block on a kernel, where a kexec has this number. It gives the block's entries and the kernel as they left
+/// it, with what was frozen of it where the block is a kexec that ended it.
+///
+/// # Errors
+///
+/// [`NoMemory`] where memory of the host was wanted. The kernel's memory is given back then.
+fn run_block(
+    alloc: Global,
+    kernel: Kernel,
+    number: u32,
+    block: &Block,
+) -> Result<BlockDone, NoMemory>
     requires lists { length kernel.labels ≡ agent_count }
     requires block { CanDo block.now }
-    ensures { IfOk result (λ r. DidBlock block.now kernel r.0 r.1.items) }
+    ensures done { IfOk result (λ d. DidBlock number block.now kernel d.kernel d.entries.items (is_some d.frozen)) }
+    ensures frozen { IfOk result (λ d. MatchOption d.frozen (Unit {0}) (λ f. IsOfKernel d.kernel f)) }
 {
-    let Block::Round(works) = block else {
-        unreachable!()
-    };
-    match works.as_slice() {
-        [] => Ok((kernel, Vec::new(alloc))),
-        [work, ..] => run_alone(alloc, kernel, work),
+    match block {
+        Block::Round(works) => run_round(alloc, kernel, works.as_slice()),
+        Block::Kexec(blob) => freeze_kernel(alloc, kernel, number, *blob),
+    }
+}
+
+/// How many kexecs a block is.
+fn kexecs(block: &Block) -> u32
+    ensures { result ≡ kexecs_in (block.now ∷ []) }
+{
+    match block {
+        Block::Round(_) => 0,
+        Block::Kexec(_) => 1,
     }
 }
 
@@ -110,21 +155,26 @@ fn run_blocks<H: Host>(alloc: Global, kernel: Kernel, blocks: &[Block], host: &m
     ensures sinks_kept { H.sinks_out host.new ≡ H.sinks_out host.old }
 {
     let mut kernel = kernel;
+    let mut number = 1;
     for block in blocks {
-        match run_block(alloc, kernel, block) {
-            Ok((next, entries)) => match write_entries(alloc, entries.as_slice(), host) {
-                Written::All => kernel = next,
+        match run_block(alloc, kernel, number, block) {
+            Ok(done) => match write_entries(alloc, done.entries.as_slice(), host) {
+                Written::All => match go_on(alloc, done) {
+                    Ok(next) => kernel = next,
+                    Err(NoMemory) => return Status::Memory,
+                },
                 Written::Memory => {
-                    end_kernel(next, Vec::new(alloc));
+                    end_block(alloc, done);
                     return Status::Memory;
                 }
                 Written::Fault => {
-                    end_kernel(next, Vec::new(alloc));
+                    end_block(alloc, done);
                     return Status::WriteFault;
                 }
             },
             Err(NoMemory) => return Status::Memory,
         }
+        number += kexecs(block);
     }
     end_kernel(kernel, Vec::new(alloc));
     Status::Done

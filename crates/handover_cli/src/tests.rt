@@ -94,10 +94,10 @@ fn with_line(alloc: Global, number: usize, line: &[u8]) -> Result<Vec<u8>, Alloc
 fn answers_with_a_status(rt: HostRuntime) -> Result<(), Fail> {
     let alloc = rt.alloc();
     let words = run_words(alloc)?;
-    let kexec = with_line(alloc, 10, b"kexec 1 4\n")?;
+    let truncated = with_line(alloc, 10, b"truncate m 8\n")?;
     let cases: [(&[u8], Status, &[u8]); 3] = [
         (
-            kexec.as_slice(),
+            truncated.as_slice(),
             Status::Script,
             b"script refused: line 10: later\n",
         ),

@@ -233,10 +233,10 @@ content_is : (x : Option SessionState) (files : List Kept) → contents.session_
 content_is None files h = cc
 content_is (Some s) files h = entries_references (finmap.entries (files_of s)) ∙ ap (map without_token) (same_files _ _ h) ∙ kept_references files
 
-abbrev Tells : SessionValue → List Kept → Type 0
+abbrev pub Tells : SessionValue → List Kept → Type 0
 Tells v files = contents.session_content (session_from v.start v.history) ≡ contents.OfFiles (map reference files)
 
-lists : (v : SessionValue) (files : List Kept) → Tells v files → references (session_in (known_state (known_of (Session v)))) ≡ map kept_reference files
+pub lists : (v : SessionValue) (files : List Kept) → Tells v files → references (session_in (known_state (known_of (Session v)))) ≡ map kept_reference files
 lists v files h = go (session_from v.start v.history) refl (content_is _ files h)
   where
     leads : (s : SessionState) → session_from v.start v.history ≡ Some s → session_in (known_state (known_of (Session v))) ≡ s
@@ -254,7 +254,7 @@ part_numbers : (parts : List Part) → map (λ r. r.file) (map part_reference pa
 part_numbers [] = refl
 part_numbers (c ∷ parts) = ap (λ ns. c.number.0 ∷ ns) (part_numbers parts)
 
-distinct_parts : (files : List Kept) (parts : List Part) → have_own_numbers files ≡ true → map part_reference parts ≡ map kept_reference files → have_distinct_files parts ≡ true
+pub distinct_parts : (files : List Kept) (parts : List Part) → have_own_numbers files ≡ true → map part_reference parts ≡ map kept_reference files → have_distinct_files parts ≡ true
 unfolding have_own_numbers
 distinct_parts files parts own listed = ap are_distinct (sym (part_numbers parts) ∙ ap (map (λ r. r.file)) listed ∙ file_numbers files) ∙ own
 

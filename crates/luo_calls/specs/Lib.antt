@@ -2,6 +2,7 @@ pub mod Came
 pub mod Closing
 pub mod ClosingFds
 pub mod Doing
+pub mod Done
 pub mod Memfds
 pub mod Opened
 pub mod Preserved

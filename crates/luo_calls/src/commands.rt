@@ -2,7 +2,7 @@
 
 pub mod close;
 pub mod close_fd;
-mod close_files;
+pub mod close_files;
 pub mod command;
 pub mod create;
 pub mod memfd;

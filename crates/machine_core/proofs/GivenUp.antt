@@ -1,15 +1,13 @@
 -- How a kernel's objects are given up.
-use Rattle.std.proofs.Common.{◌≡◌, ◌≢◌, ℕ, ◌<◌, List, [], ◌∷◌, length, refl, sym, ap, subst, ◌∙◌, arith, slice_index_or, slice_set, get_or-set_same, get_or-set_other, zero, suc, inl, inr}
-use Rattle.std.specs.Prelude.{Option, None, Some, IsSome, MatchOption}
+use Rattle.std.proofs.Common.{◌≡◌, ◌≢◌, ℕ, ◌<◌, List, [], ◌∷◌, length, refl, sym, subst, ◌∙◌, arith, slice_index_or, slice_set, get_or-set_same, get_or-set_other, zero, suc, inl, inr}
+use Rattle.std.specs.Prelude.{Option, None, Some, IsSome}
 use Rattle.std.specs.List.{All}
 use Rattle.std.proofs.Math.ListN.{length-set}
 use Rattle.std.proofs.lemmas.Bool.Decides.{nat_tests, eqb_tells}
 use Rattle.ho_base.specs.ShapeRule.{Layout}
 use Rattle.ho_base.specs.Objects.{pool_no}
-use Rattle.ho_events.specs.File.{FileState}
-use Rattle.memfd_file.specs.Files.{page_of, with_page_home, with_file_home}
 use Rattle.phys_frames.specs.Homes.{HomeId}
-use Rattle.phys_frames.specs.Memory.{Memory, FolioValue, AreOf}
+use Rattle.phys_frames.specs.Memory.{FolioValue, AreOf}
 use Rattle.machine_core.specs.declared.object.Object.{Object}
 use Rattle.machine_core.specs.declared.object.Object.TheVariants as kind_of
 use Rattle.machine_core.specs.Kernels.{object_at, IsAt, IsSlot, KeepsKernel, IsLeft}
@@ -64,19 +62,6 @@ module _ (shape : Layout) (home : HomeId) (base : ℕ) (objects : List (Option O
         | inl e ↦ subst (λ m. IsLeft home (object_at (slice_set objects pool_no None) m)) (sym e.1) (rw get_or-set_same tt)
         | inr e ↦ let other : n ≢ pool_no = e.1 in rw get_or-set_other (left_at n (object_at objects n) other (k.slots n inside))
       ]
-
--- what is in a file comes to the frames of its home, which stay of that home
-home_stays : (m : Memory) → (s : Option FileState) → (with_file_home m s).home ≡ m.home
-home_stays m None = refl
-home_stays m (Some f) = page_stays m _ f
-  where
-    page_stays : (m : Memory) → (p : Option ℕ) → (f : FileState) → (with_page_home m p (page_of f.bytes)).home ≡ m.home
-    page_stays m None f = refl
-    page_stays m (Some p) f = refl
-
-pub scrap_home : (after : Option (Option FileState)) → (old new : Memory) → MatchOption after ⊥ (λ s. new ≡ with_file_home old s) → new.home ≡ old.home
-scrap_home None old new h = absurd h
-scrap_home (Some s) old new h = ap (λ (m : Memory). m.home) h ∙ home_stays old s
 
 -- folios of one home, read by place
 pub of_home : (home : HomeId) → (folios : List FolioValue) → AreOf home folios → All (λ f. f.home ≡ home) folios

@@ -1,10 +1,13 @@
+pub mod Built
 pub mod Earlier
+pub mod Gathered
 pub mod GivenUp
 pub mod Hands
 pub mod Kernels
 pub mod LabelFiles
 pub mod LabelLists
 pub mod LabelMaps
+pub mod MoreHome
 pub mod Objects
 pub mod PlainEnds
 pub mod PlainShows

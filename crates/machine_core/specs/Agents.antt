@@ -11,10 +11,11 @@ use Rattle.phys_frames.specs.Homes.{HomeId}
 use Rattle.machine_core.specs.declared.object.Object.{Object}
 use Rattle.machine_core.specs.Objects.{Start, start_of, history_of, known_of, spot_of, spot_at, number_of, IsRunOf, IsOfMachine}
 
--- the kernel at which an agent works: its number, its machine's shape, the home of the machine's frames, and the
--- greatest stamp in it as the work began
+-- the kernel at which an agent works: its number, its update number, its machine's shape, the home of the machine's
+-- frames, and the greatest stamp in it as the work began
 pub record Anchor : Type 0 where
   pub kernel : ℕ
+  pub updates : ℕ
   pub shape : Layout
   pub home : HomeId
   pub base : ℕ

@@ -1,21 +1,30 @@
 -- A kernel at rest: its objects by number, the labels of its agents, and how it begins.
-use Rattle.std.specs.Prelude.{◌≡◌, ◌≢◌, ℕ, ◌<◌, nat_le, is_some, IsTrue, List, [], length, slice_index_or, Option, None, Some}
+use Rattle.std.specs.Prelude.{◌≡◌, ℕ, ◌+◌, ◌-◌, ◌<◌, nat_le, nat_lt, if◌then◌else◌, is_some, IsTrue, List, [], ◌∷◌, length, slice_index_or, Option, None, Some}
 use Rattle.std.specs.List.{list_all}
 use Rattle.ho_base.specs.ShapeRule.{Layout}
-use Rattle.ho_base.specs.Objects.{pool_no}
+use Rattle.ho_base.specs.declared.limits.TheConstants.{OUT_SLOTS}
+use Rattle.ho_base.specs.Objects.{session_no, file_no}
+use Rattle.ho_events.specs.Pool.{PoolState}
+use Rattle.ho_events.specs.Registry.{RegistryState}
+use Rattle.ho_events.specs.Handler.{cold_handler}
+use Rattle.ho_events.specs.Session.{SessionState, Free}
+use Rattle.ho_events.specs.File.{FileState}
 use Rattle.ho_events.specs.declared.entry.Entry.{Entry}
 use Rattle.ho_world.specs.Sequences.{Labels}
-use Rattle.ho_world.specs.World.{State, run, cold}
+use Rattle.ho_world.specs.World.{State, run, cold, by_number}
 use Rattle.phys_frames.specs.Homes.{HomeId}
+use Rattle.session_core.specs.SessionValues.{SessionValue}
+use Rattle.memfd_file.specs.FileValues.{FileValue}
 use Rattle.machine_core.specs.declared.object.Object as object
 use Rattle.machine_core.specs.declared.object.Object.TheVariants.{Pool, Registry, Session, File}
 use Rattle.machine_core.specs.Agents.{state_in}
 use Rattle.machine_core.specs.Objects.{Start, Spot, NoSpot, spot_at, spot_of, object_count, number_of, start_of, history_of, IsOfMachine}
 
--- a kernel at rest: its number, its machine's shape and the home of its frames, its objects by number, the labels of
--- its agents by agent number, and the greatest stamp so far
+-- a kernel at rest: its number, its update number, its machine's shape and the home of its frames, its objects by
+-- number, the labels of its agents by agent number, and the greatest stamp so far
 pub record KernelValue : Type 0 where
   pub number : ℕ
+  pub updates : ℕ
   pub shape : Layout
   pub home : HomeId
   pub objects : List (Option object.Object)
@@ -80,20 +89,24 @@ if_built spot s = Some s
 abbrev pub cold_begun : Layout → ℕ → Option State
 cold_begun shape n = if_built (spot_at n) ((cold shape).at n)
 
--- an object of a kernel that begins cold: it is as it begins, without a history
-pub record IsCold (shape : Layout) (home : HomeId) (n : ℕ) (o : object.Object) : Type 0 where
-  pub here : IsAt shape home n o
-  pub state : (start_of o).state ≡ (cold shape).at n
-  pub history : history_of o ≡ []
+-- the session in a slot, where these are the incoming ones
+abbrev pub slot_state : List SessionState → ℕ → SessionState
+slot_state sessions s = if nat_lt s OUT_SLOTS then Free else slice_index_or sessions (s - OUT_SLOTS) Free
 
--- what is at a number while the kernel is built, before the pool: the object that has it
-abbrev pub IsBuilt : Layout → HomeId → ℕ → Option object.Object → Type 0
-IsBuilt shape home n None = n ≢ pool_no → spot_at n ≡ NoSpot
-IsBuilt shape home n (Some o) = (n ≢ pool_no) × IsCold shape home n o
+-- the states in which the objects of a kernel begin that has these: every other slot is free, and every other file absent
+abbrev pub begins_with : PoolState → RegistryState → List SessionState → List (Option FileState) → ℕ → Option State
+begins_with pool registry sessions files n =
+    if_built (spot_at n) (by_number pool registry (λ k. cold_handler) (slot_state sessions) (λ f. slice_index_or files f None) n)
 
--- the places of a kernel that were built so far
-unfoldable pub AreBuilt : Layout → HomeId → List (Option object.Object) → Type 0
-AreBuilt shape home objects = (n : ℕ) → n < length objects → IsBuilt shape home n (object_at objects n)
+-- session slots from this one on, each with its own number, and without a history
+abbrev pub AreWaiting : ℕ → List SessionValue → Type 0
+AreWaiting slot [] = Unit {0}
+AreWaiting slot (s ∷ sessions) = (s.number ≡ session_no slot) × (s.history ≡ []) × AreWaiting (slot + 1) sessions
+
+-- files of this home from this one on, each with its own number, and without a history
+abbrev pub AreHeld : HomeId → ℕ → List FileValue → Type 0
+AreHeld home file [] = Unit {0}
+AreHeld home file (f ∷ files) = (f.number ≡ file_no file) × (f.home ≡ home) × (f.history ≡ []) × AreHeld home (file + 1) files
 
 -- what is left at a place where the pool was taken away: no pool, and a file of this home
 abbrev pub IsLeft : HomeId → Option object.Object → Type 0

@@ -1,7 +1,10 @@
 pub mod Agents
+pub mod Building
 pub mod Commands
+pub mod Gathered
 pub mod Kernels
 pub mod LabelsShown
 pub mod Objects
 pub mod Plain
 pub mod Turns
+pub mod Worlds

@@ -64,7 +64,7 @@ earlier_in a histories = sorted (filter (λ p. p.entry.agent.0 == a) (flat_map (
 
 -- the kernel as the anchor of an agent's work on it
 abbrev pub anchor_of : KernelValue → Anchor
-anchor_of k = record { kernel = k.number; shape = k.shape; home = k.home; base = k.base }
+anchor_of k = record { kernel = k.number; updates = k.updates; shape = k.shape; home = k.home; base = k.base }
 
 -- the agent as its reach shows it
 abbrev pub agent_of : PlainValue → Agent

@@ -28,6 +28,7 @@ use std::snapshot::Snapshot;
 pub struct PlainReach {
     agent: AgentNo,
     number: u8,
+    updates: u32,
     shape: Snapshot<Shape>,
     home: Home,
     /// The objects as the work began.
@@ -54,7 +55,7 @@ impl Model for PlainReach {
 
     ghost coded = { Prim.hlevel (codes, finmap.code, object.the_row.coded) };
 
-    ghost view = { λ r. record { agent = r.agent.0; kernel = record { number = r.number; shape = r.shape.value; home = r.home; objects = r.opening.value.items; labels = r.labels; base = r.base }; objects = r.objects.items; log = r.log.items; back = back_in r.back; room = vec_capacity r.log - vec_len r.log } };
+    ghost view = { λ r. record { agent = r.agent.0; kernel = record { number = r.number; updates = r.updates; shape = r.shape.value; home = r.home; objects = r.opening.value.items; labels = r.labels; base = r.base }; objects = r.objects.items; log = r.log.items; back = back_in r.back; room = vec_capacity r.log - vec_len r.log } };
 
     ghost invariant = { λ r. KeepsKernel r.shape.value r.home r.base r.opening.value.items × KeepsWork r.shape.value r.home r.opening.value.items r.objects.items r.log.items };
 }
@@ -98,6 +99,7 @@ impl PlainReach {
     {
         let Kernel {
             number,
+            updates,
             shape,
             home,
             objects,
@@ -107,6 +109,7 @@ impl PlainReach {
         PlainReach {
             agent,
             number,
+            updates,
             shape,
             home,
             opening: Snapshot::of(&objects),
@@ -125,6 +128,7 @@ impl PlainReach {
         requires free { (agent_of self).hands ≡ no_hands }
         ensures anchor { anchor_of result.0 ≡ record (agent_of self).anchor { base = max (agent_of self).anchor.base (last_stamp result.1.items) } }
         ensures labels { result.0.labels ≡ self.kernel.labels }
+        ensures updates { result.0.updates ≡ self.kernel.updates }
         ensures starts { starts_in result.0.objects ≡ (agent_of self).starts }
         ensures histories { histories_in result.0.objects ≡ grown (histories_in self.kernel.objects) result.1.items }
         ensures told { Some (histories_in result.0.objects) ≡ (agent_of self).told }
@@ -135,6 +139,7 @@ impl PlainReach {
         let PlainReach {
             agent: _,
             number,
+            updates,
             shape,
             home,
             opening: _,
@@ -147,6 +152,7 @@ impl PlainReach {
         let base = base.max(last_stamp_of(log.as_slice()));
         let kernel = Kernel {
             number,
+            updates,
             shape,
             home,
             objects,

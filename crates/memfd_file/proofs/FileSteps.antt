@@ -30,8 +30,8 @@ use Rattle.ho_events.specs.declared.reply.Reply.{Reply}
 use Rattle.ho_events.specs.declared.reply.Reply.TheVariants.{Ok, OkRuns, Kept, KeptRuns, Gone, NoFramesOf, SizeFrozen, NotFinished, AlreadyPinned}
 use Rattle.ho_events.proofs.Runs.{run_push}
 use Rattle.memfd_file.proofs.Pages.{overwritten_length, written_page, page_front, page_length, page_of_none}
-use Rattle.memfd_file.specs.Files.{page_of, folio_of, with_page_home}
-use Rattle.phys_frames.specs.Memory.{AreFills, IsFill, AreOf, first_frames}
+use Rattle.memfd_file.specs.Files.{page_of, folio_of, IsOnePage, PageIsOut, with_page_home}
+use Rattle.phys_frames.specs.Memory.{AreFills, IsFill, AreOf, RunOut, first_frames}
 use Rattle.memfd_file.specs.FileShown.{bytes_in, runs_in, content_shown, shown, IsPage, HasPage, IsSound, SoundIfThere, FolioAtHome, AtHome, with_fill, put, KeepsFile}
 use Rattle.memfd_file.specs.declared.content.Content.{Content}
 
@@ -342,6 +342,23 @@ page_home m n c r h s within e =
     e ∙ one_given m r page.single (omega (arith, within, pow_pos r.order.0)) page.long ∙ ap (λ bytes. with_page m r.first bytes) page.zeros
     ∙ ap (λ q. with_page_home m q (page_of (take c.size r.bytes))) (sym (get_page r))
     ∙ ap (λ o. with_page_home m (finmap.get (runs_in o) 0) (page_of (bytes_in o c.size))) (sym h)
+
+-- the frame of a folio that comes home was out
+pub none_out : (m : Memory) → (c : Content) → c.folio ≡ None → PageIsOut m (finmap.get (runs_in c.folio) 0)
+none_out m c h = subst (PageIsOut m) (run_missing c 0 h) tt
+
+pub page_out : (m : Memory) → (c : Content) → (r : FolioValue) → c.folio ≡ Some r → RunOut m r.first r.order → PageIsOut m (finmap.get (runs_in c.folio) 0)
+page_out m c r h out =
+    subst (PageIsOut m) (sym (ap (λ o. finmap.get (runs_in o) 0) h ∙ get_page r))
+    (omega (arith, out.0, pow_pos r.order.0), out.1 r.first.0 None (omega arith) (omega (arith, pow_pos r.order.0)))
+
+-- what each file of at most one page is
+pub no_page : (c : Content) → c.folio ≡ None → IsOnePage None (content_shown c)
+no_page c h = (refl, refl, ap (λ o. bytes_in o c.size) h, ap runs_in h)
+
+pub one_page : (c : Content) → (r : FolioValue) → (p : Pfn) → c.folio ≡ Some r → p ≡ r.first → IsSound c → IsOnePage (Some p) (content_shown c)
+one_page c r p h first s =
+    (refl, refl, omega (arith, content_size c s, s.within), ap runs_in h ∙ ap (λ q. finmap.insert finmap.empty 0 q.0) (sym first))
 
 -- a turn that was noted, by the step that it takes
 pub turn_ran : (start : Option FileState) → (h h2 : List Entry) → (e : Entry) → (home : HomeId) → (c : Option Content) → (event : Event) → (reply : Reply) → (at : At) → (last : ℕ) → (object : Spot) → (s : Option FileState) →

@@ -1,10 +1,12 @@
 -- What a file answers.
-use Rattle.std.specs.Prelude.{◌≡◌, ℕ, ◌+◌, ◌-◌, Bool, true, false, ◌&&◌, ◌||◌, ◌==◌, nat_lt, if◌then◌else◌, IsTrue, List, [], ◌++◌, map, length, take, drop, replicate}
+use Rattle.std.specs.Prelude.{◌≡◌, ℕ, ◌+◌, ◌-◌, ◌≤◌, Bool, true, false, ◌&&◌, ◌||◌, ◌==◌, nat_lt, if◌then◌else◌, IsTrue, List, [], ◌++◌, map, length, take, drop, replicate}
 use Rattle.std.specs.Prelude.{Option, None, Some, MatchOption}
 use Rattle.std.specs.FinMap as finmap
 use Rattle.ho_base.specs.declared.limits.TheConstants.{PAGE_BYTES}
+use Rattle.ho_base.specs.declared.numbers.Kind.TheVariants.{Memfd}
+use Rattle.ho_base.specs.declared.numbers.Pfn.{Pfn}
 use Rattle.phys_frames.specs.Homes.{HomeId}
-use Rattle.phys_frames.specs.Memory.{Memory, FolioValue, with_page}
+use Rattle.phys_frames.specs.Memory.{Memory, FolioValue, IsOut, with_page}
 use Rattle.ho_events.specs.Lists.{firsts}
 use Rattle.ho_events.specs.File.{FileState, grows_frozen, touched_holes, runs_of}
 use Rattle.ho_events.specs.Contents.{Content, Plain, OfFile}
@@ -100,6 +102,19 @@ IsCloseFdAnswer f Kept = IsTrue (f.pin || f.hold)
 IsCloseFdAnswer f (Gone runs) = ((f.pin || f.hold) ≡ false) × (firsts runs ≡ runs_of f)
 IsCloseFdAnswer f reply = ⊥
 
+-- what the end of an incoming session's hold is answered: kept where a label or an outgoing session has the file, and
+-- else gone with all runs by index
+abbrev pub IsFinishAnswer : FileState → Reply → Type 0
+IsFinishAnswer f Kept = IsTrue (f.opened || f.pin)
+IsFinishAnswer f (Gone runs) = ((f.opened || f.pin) ≡ false) × (firsts runs ≡ runs_of f)
+IsFinishAnswer f reply = ⊥
+
+-- a memfd of order 0: with no bytes and no run where no page is named; else with at most a page of bytes, and this page
+-- at index 0 as its one run
+abbrev pub IsOnePage : Option Pfn → FileState → Type 0
+IsOnePage None f = (f.kind ≡ Memfd) × (f.order ≡ 0) × (f.bytes ≡ []) × (f.runs ≡ finmap.empty)
+IsOnePage (Some p) f = (f.kind ≡ Memfd) × (f.order ≡ 0) × (length f.bytes ≤ PAGE_BYTES) × (f.runs ≡ finmap.insert finmap.empty 0 p.0)
+
 -- the folios that a file of at most one page gives up: all, with its bytes, where it is gone
 abbrev pub given_up : HomeId → FileState → Reply → List FolioValue
 given_up home f (Gone runs) = map (λ r. folio_of home f.bytes r.0) runs
@@ -109,6 +124,11 @@ given_up home f reply = []
 abbrev pub with_page_home : Memory → Option ℕ → List ℕ → Memory
 with_page_home m None bytes = m
 with_page_home m (Some p) bytes = with_page m (record { 0 = p }) bytes
+
+-- the frame of a page is out, where there is one
+abbrev pub PageIsOut : Memory → Option ℕ → Type 0
+PageIsOut m None = Unit {0}
+PageIsOut m (Some p) = IsOut m (record { 0 = p })
 
 -- frames to which a file of at most one page gave its folio back
 abbrev pub with_file_home : Memory → Option FileState → Memory

@@ -1,6 +1,6 @@
 //! The parts of a memfd that is there.
 
-ghost use Rattle.std.specs.Prelude.{◌≡◌, ◌+◌, ◌<◌, ◌≤◌, ◌++◌, ◌||◌, [], true, false, None, Some, IsSome, MatchOption, option_map, length, take, drop, map, vec_len, vec_capacity};
+ghost use Rattle.std.specs.Prelude.{◌≡◌, ◌+◌, ◌<◌, ◌≤◌, ◌++◌, ◌||◌, [], true, false, None, Some, IsSome, option_map, length, take, drop, map, vec_len, vec_capacity};
 ghost use Rattle.ho_base.specs.declared.limits.TheConstants.{PAGE_BYTES};
 ghost use Rattle.phys_frames.specs.Homes.{HomeId};
 ghost use Rattle.ho_events.specs.Lists.{firsts};
@@ -8,11 +8,11 @@ ghost use Rattle.ho_events.specs.Slips.{reply_runs, reply_bytes};
 ghost use Rattle.std.specs.FinMap as finmap;
 ghost use Rattle.ho_base.specs.declared.numbers.Kind.TheVariants.{Memfd};
 ghost use Rattle.ho_events.specs.File.{file_step, new_file, grows_frozen, touched_holes, runs_of};
-ghost use Rattle.ho_events.specs.declared.event.Event.TheVariants.{FileWrite, FileRead, FilePin, FileUnpin};
+ghost use Rattle.ho_events.specs.declared.event.Event.TheVariants.{FileWrite, FileRead, FilePin};
 ghost use Rattle.ho_events.specs.declared.reply.Reply.TheVariants.{Ok};
 ghost use Rattle.phys_frames.specs.Memory.{AreFills, AreOf, first_frames};
-ghost use Rattle.memfd_file.specs.Files.{fills_used, fills_left, write_answer, read_answer, IsPinAnswer, IsUnpinAnswer, folio_of, facts_of, page_of, with_page_home, given_up};
-ghost use Rattle.memfd_file.specs.FileShown.{bytes_in, content_shown, shown, IsSound, SoundIfThere, AtHome, FolioAtHome, with_fill, put};
+ghost use Rattle.memfd_file.specs.Files.{fills_used, fills_left, write_answer, read_answer, IsPinAnswer, IsOnePage, PageIsOut, folio_of, facts_of, page_of, with_page_home};
+ghost use Rattle.memfd_file.specs.FileShown.{bytes_in, content_shown, IsSound, FolioAtHome, with_fill, put};
 
 use crate::facts::Facts;
 use ho_base::Items;
@@ -76,6 +76,17 @@ impl Content {
         if index > 0 {
             return None;
         }
+        match &self.folio {
+            None => None,
+            Some(folio) => Some(folio.first()),
+        }
+    }
+
+    /// The frame of the page; none where the file has no page.
+    pub fn page(&self) -> Option<Pfn>
+        requires { IsSound self.now }
+        ensures { IsOnePage result (content_shown self.now) }
+    {
         match &self.folio {
             None => None,
             Some(folio) => Some(folio.first()),
@@ -276,7 +287,8 @@ impl Content {
     pub fn end(self, frames: &mut Frames)
         requires sound { IsSound self }
         requires home { FolioAtHome frames.old.home self.folio }
-        ensures { frames.new ≡ with_page_home frames.old (finmap.get (content_shown self).runs 0) (page_of (content_shown self).bytes) }
+        ensures home { frames.new ≡ with_page_home frames.old (finmap.get (content_shown self).runs 0) (page_of (content_shown self).bytes) }
+        ensures were_out { PageIsOut frames.old (finmap.get (content_shown self).runs 0) }
     {
         let Content {
             folio,
@@ -330,51 +342,4 @@ pub(crate) fn place(content: &mut Option<Content>, file: Content)
         None => {}
         Some(_file) => unreachable!(),
     }
-}
-
-/// Ends the pin. Where a label or an incoming session has the file, it is kept and its runs are told; else it
-/// is gone, and its folio is given up.
-pub(crate) fn unpin(content: &mut Option<Content>, runs: Vec<Pfn>, given: &mut Vec<Folio>) -> Reply
-    requires sound { SoundIfThere content.old }
-    requires pinned { MatchOption content.old ⊥ (λ c. c.pin ≡ true) }
-    requires empty { runs.items ≡ [] }
-    requires room { 0 < vec_capacity runs }
-    requires given { vec_len given.old < vec_capacity given.old }
-    ensures answer { MatchOption content.old ⊥ (λ c. IsUnpinAnswer (content_shown c) result) }
-    ensures step { file_step (shown content.old) FileUnpin result ≡ Some (shown content.new) }
-    ensures sound { SoundIfThere content.new }
-    ensures home { (home : HomeId) → AtHome home content.old → AtHome home content.new }
-    ensures given { (home : HomeId) → AtHome home content.old → MatchOption content.old ⊥ (λ c. given.new.items ≡ given.old.items ++ given_up home (content_shown c) result) }
-    ensures few { length (reply_runs result) ≤ 1 }
-{
-    match content.take() {
-        None => unreachable!(),
-        Some(file) => {
-            if file.opened || file.hold {
-                keep(content, file, runs)
-            } else {
-                Reply::Gone(file.give_up(runs, given))
-            }
-        }
-    }
-}
-
-/// Puts a file back without its pin, and tells its runs.
-fn keep(content: &mut Option<Content>, mut file: Content, runs: Vec<Pfn>) -> Reply
-    requires empty_place { content.old ≡ None }
-    requires sound { IsSound file }
-    requires pinned { file.pin ≡ true }
-    requires kept { (file.opened || file.hold) ≡ true }
-    requires empty { runs.items ≡ [] }
-    requires room { 0 < vec_capacity runs }
-    ensures answer { IsUnpinAnswer (content_shown file) result }
-    ensures step { file_step (Some (content_shown file)) FileUnpin result ≡ Some (shown content.new) }
-    ensures file { content.new ≡ Some (record file { pin = false }) }
-    ensures given { (home : HomeId) → given_up home (content_shown file) result ≡ [] }
-    ensures few { length (reply_runs result) ≤ 1 }
-{
-    file.pin = false;
-    let told = file.runs(runs);
-    place(content, file);
-    Reply::KeptRuns(told)
 }

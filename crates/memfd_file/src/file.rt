@@ -1,22 +1,21 @@
 //! Files. At this stage a file is a memfd of order 0 and at most
 //! [`PAGE_BYTES`](ho_base::limits::PAGE_BYTES) bytes, so it has at most one run: a page, at index 0.
 
-ghost use Rattle.std.specs.Prelude.{◌≡◌, ◌+◌, ◌<◌, ◌≤◌, ◌^◌, ◌++◌, ◌∷◌, [], true, None, Some, IsSome, OnOk, IsTrue, is_some, length, option_map, vec_len, vec_capacity};
+ghost use Rattle.std.specs.Prelude.{◌≡◌, ◌+◌, ◌<◌, ◌≤◌, ◌^◌, ◌++◌, ◌∷◌, [], None, Some, IsSome, MatchOption, OnOk, IsTrue, is_some, length, option_map, vec_len};
 ghost use Rattle.ho_base.specs.declared.limits.TheConstants.{PAGE_BYTES};
 ghost use Rattle.ho_base.specs.declared.numbers.Kind.TheVariants.{Memfd};
 ghost use Rattle.ho_events.specs.History.{last_stamp, file_from};
 ghost use Rattle.ho_events.specs.File.{touched_holes};
 ghost use Rattle.ho_events.specs.Contents.{file_content};
 ghost use Rattle.ho_events.specs.Places.{object_at};
-ghost use Rattle.ho_events.specs.Slips.{entry_at, reply_runs};
-ghost use Rattle.ho_events.specs.declared.event.Event.TheVariants.{FileInit, FileWrite, FileRead, FileCloseFd, FilePin, FileUnpin};
+ghost use Rattle.ho_events.specs.Slips.{entry_at};
+ghost use Rattle.ho_events.specs.declared.event.Event.TheVariants.{FileInit, FileWrite, FileRead};
 ghost use Rattle.ho_events.specs.declared.reply.Reply.TheVariants.{Ok};
-ghost use Rattle.memfd_file.specs.Files.{FileHas, facts_of, content_told, run_at, is_opened, is_pinned, fills_used, fills_left, write_answer, read_answer, IsPinAnswer, IsUnpinAnswer, IsCloseFdAnswer, given_up, with_file_home};
+ghost use Rattle.memfd_file.specs.Files.{FileHas, facts_of, content_told, run_at, is_opened, is_pinned, fills_used, fills_left, write_answer, read_answer, IsOnePage, PageIsOut, with_file_home};
 ghost use Rattle.phys_frames.specs.Memory.{AreFills, AreOf, first_frames};
 ghost use Rattle.memfd_file.specs.FileValues.{FileIs};
 
-use crate::closing::close_fd;
-use crate::content::{Content, place, unpin};
+use crate::content::{Content, place};
 use crate::facts::Facts;
 use ho_base::Items;
 use ho_base::numbers::{Kind, NoMemory, ObjectNo, Order, Pfn};
@@ -151,6 +150,17 @@ impl FileObject {
         }
     }
 
+    /// The frame of the file's page; none where it has no page, or there is no file. It says what each file of this
+    /// stage is, for those who see its state alone.
+    pub fn page(&self) -> Option<Pfn>
+        ensures { FileIs self.now (λ s. MatchOption s (result ≡ None) (IsOnePage result)) }
+    {
+        match &self.content {
+            None => None,
+            Some(content) => content.page(),
+        }
+    }
+
     /// How many holes a range of bytes touches: none where it is empty.
     pub fn holes(&self, off: u32, len: u32) -> u32
         requires present { FileIs self.now IsSome }
@@ -278,115 +288,11 @@ impl FileObject {
         )
     }
 
-    /// Pins the file, and tells all its runs by index. `NotFinished` exactly where an incoming session has it;
-    /// else `AlreadyPinned` exactly where an outgoing one has it. Then nothing changes. A file of this stage has
-    /// no holes below its size, so no folio comes and no refusal of the caller's.
-    pub fn pin(&mut self, slip: Slip, fills: &mut Vec<Folio>, lost: Option<Reply>) -> Turned<Reply>
-        requires present { FileIs self.old IsSome }
-        requires fills { fills.old.items ≡ [] }
-        requires lost { lost ≡ None }
-        requires slip_numbers { 1 ≤ slip.room.reply_numbers }
-        requires room { 0 < self.old.room }
-        requires agent_stamp { slip.at.last < 2 ^ 63 }
-        requires object_stamp { last_stamp self.old.history < 2 ^ 63 }
-        ensures exact { FileHas self.old (λ f. IsPinAnswer f result.value) }
-        ensures few { length (reply_runs result.value) ≤ 1 }
-        ensures fills { fills.new.items ≡ [] }
-        ensures told { result.entry ≡ entry_at slip.at (last_stamp self.old.history) (object_at self.old.number) (FilePin []) result.value }
-        ensures kept { self.new.history ≡ self.old.history ++ result.entry ∷ [] }
-        ensures number { self.new.number ≡ self.old.number }
-        ensures start { self.new.start ≡ self.old.start }
-        ensures home { self.new.home ≡ self.old.home }
-        ensures room { self.new.room + 1 ≡ self.old.room }
-        ensures run { IsTrue (is_some (file_from self.new.start self.new.history)) }
-    {
-        let (at, own, copy, value) = slip.open();
-        let reply = match &mut self.content {
-            None => unreachable!(),
-            Some(content) => content.pin(own.reply_runs),
-        };
-        let event = Event::FilePin(Items::from_vec(own.event_runs));
-        append_turn(
-            &mut self.history,
-            self.number,
-            at,
-            event,
-            reply,
-            copy,
-            value,
-        )
-    }
-
-    /// Ends the pin, and tells all runs by index. Where a label or an incoming session has the file, it is kept;
-    /// else it is absent afterwards, and its folios are put at the end of the caller's.
-    pub fn unpin(&mut self, slip: Slip, given: &mut Vec<Folio>) -> Turned<Reply>
-        requires pinned { FileHas self.old (λ f. f.pin ≡ true) }
-        requires given { vec_len given.old < vec_capacity given.old }
-        requires slip_numbers { 1 ≤ slip.room.reply_numbers }
-        requires room { 0 < self.old.room }
-        requires agent_stamp { slip.at.last < 2 ^ 63 }
-        requires object_stamp { last_stamp self.old.history < 2 ^ 63 }
-        ensures exact { FileHas self.old (λ f. IsUnpinAnswer f result.value) }
-        ensures few { length (reply_runs result.value) ≤ 1 }
-        ensures given { FileHas self.old (λ f. given.new.items ≡ given.old.items ++ given_up self.old.home f result.value) }
-        ensures told { result.entry ≡ entry_at slip.at (last_stamp self.old.history) (object_at self.old.number) FileUnpin result.value }
-        ensures kept { self.new.history ≡ self.old.history ++ result.entry ∷ [] }
-        ensures number { self.new.number ≡ self.old.number }
-        ensures start { self.new.start ≡ self.old.start }
-        ensures home { self.new.home ≡ self.old.home }
-        ensures room { self.new.room + 1 ≡ self.old.room }
-        ensures run { IsTrue (is_some (file_from self.new.start self.new.history)) }
-    {
-        let (at, own, copy, value) = slip.open();
-        let reply = unpin(&mut self.content, own.reply_runs, given);
-        append_turn(
-            &mut self.history,
-            self.number,
-            at,
-            Event::FileUnpin,
-            reply,
-            copy,
-            value,
-        )
-    }
-
-    /// Ends the label's hold. Where an outgoing or an incoming session has the file, it is kept; else it is absent
-    /// afterwards, all its runs are told, and its folios are put at the end of the caller's.
-    pub fn close_fd(&mut self, slip: Slip, given: &mut Vec<Folio>) -> Turned<Reply>
-        requires opened { FileHas self.old (λ f. f.opened ≡ true) }
-        requires given { vec_len given.old < vec_capacity given.old }
-        requires slip_numbers { 1 ≤ slip.room.reply_numbers }
-        requires room { 0 < self.old.room }
-        requires agent_stamp { slip.at.last < 2 ^ 63 }
-        requires object_stamp { last_stamp self.old.history < 2 ^ 63 }
-        ensures exact { FileHas self.old (λ f. IsCloseFdAnswer f result.value) }
-        ensures few { length (reply_runs result.value) ≤ 1 }
-        ensures given { FileHas self.old (λ f. given.new.items ≡ given.old.items ++ given_up self.old.home f result.value) }
-        ensures told { result.entry ≡ entry_at slip.at (last_stamp self.old.history) (object_at self.old.number) FileCloseFd result.value }
-        ensures kept { self.new.history ≡ self.old.history ++ result.entry ∷ [] }
-        ensures number { self.new.number ≡ self.old.number }
-        ensures start { self.new.start ≡ self.old.start }
-        ensures home { self.new.home ≡ self.old.home }
-        ensures room { self.new.room + 1 ≡ self.old.room }
-        ensures run { IsTrue (is_some (file_from self.new.start self.new.history)) }
-    {
-        let (at, own, copy, value) = slip.open();
-        let reply = close_fd(&mut self.content, own.reply_runs, given);
-        append_turn(
-            &mut self.history,
-            self.number,
-            at,
-            Event::FileCloseFd,
-            reply,
-            copy,
-            value,
-        )
-    }
-
-    /// Ends the file, and brings its folio home. The history goes.
+    /// Ends the file, and brings its folio home: its frame was out. The history goes.
     pub fn scrap(self, frames: &mut Frames)
         requires { self.home ≡ frames.old.home }
-        ensures { FileIs self (λ s. frames.new ≡ with_file_home frames.old s) }
+        ensures home { FileIs self (λ s. frames.new ≡ with_file_home frames.old s) }
+        ensures were_out { FileIs self (λ s. PageIsOut frames.old (run_at s 0)) }
     {
         let FileObject {
             number: _,

@@ -6,8 +6,10 @@ mod closing;
 mod content;
 mod facts;
 mod file;
+mod finishing;
 mod holding;
 mod laws;
+mod pinning;
 
 pub use facts::Facts;
 pub use file::FileObject;

@@ -4,7 +4,7 @@ ghost use Rattle.std.specs.Prelude.{◌≡◌, ◌+◌, ◌<◌, ◌≤◌, ◌^
 ghost use Rattle.std.specs.List.{All, list_any};
 ghost use Rattle.std.specs.FinSet as finset;
 ghost use Rattle.ho_base.specs.declared.limits.TheConstants.{MAX_ORDER};
-ghost use Rattle.ho_events.specs.Pool.{is_owned_run, is_unpinned_run, frames_of};
+ghost use Rattle.ho_events.specs.Pool.{is_owned, is_owned_run, is_unpinned_run, frames_of};
 ghost use Rattle.pool_core.specs.PoolFlags.{flag};
 ghost use Rattle.pool_core.specs.PoolValues.{PoolIs};
 ghost use Rattle.pool_core.specs.PoolRunFlags.{any_marked};
@@ -23,6 +23,13 @@ impl Pool {
     {
         let _order = order;
         flag_of(self.table.single.as_slice(), first)
+    }
+
+    /// Whether an owned run of any order holds the frame. None holds a frame past the last one.
+    pub fn is_owned(&self, p: Pfn) -> bool
+        ensures { PoolIs self.now (λ s. result ≡ is_owned s p.0) }
+    {
+        flag_of(self.table.owned.as_slice(), p)
     }
 
     /// Whether some frame of the run is pinned. It goes over the run's frames once.

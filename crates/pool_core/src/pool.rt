@@ -121,9 +121,10 @@ impl Pool {
         self.table.home()
     }
 
-    /// The machine's shape.
+    /// The machine's shape, which stays as it is.
     pub fn shape(&self) -> &Shape
-        ensures { result.now ≡ self.now.shape }
+        ensures value { result.now ≡ self.now.shape }
+        ensures state { PoolIs self.now (λ s. s.shape ≡ result.now) }
     {
         self.table.shape()
     }

@@ -1,4 +1,3 @@
-pub mod Marking
 pub mod Tests
 pub mod Taken
 pub mod Ready

@@ -1,30 +1,13 @@
--- What the tests of a state and of folios compute.
-use Rattle.std.specs.Prelude.{ℕ, ◌+◌, ◌^◌, ◌≤◌, max, ◌&&◌, ◌==◌, Bool, true, false, if◌then◌else◌, nat_le, List, [], ◌∷◌, Option, Some, None}
+-- What the tests of folios compute.
+use Rattle.std.specs.Prelude.{ℕ, ◌+◌, ◌^◌, ◌≤◌, max, ◌&&◌, ◌==◌, if◌then◌else◌, nat_le, List, [], ◌∷◌, Option, Some, None}
 use Rattle.ho_base.specs.ShapeRule.{area_end}
 use Rattle.ho_base.specs.declared.shape.Area.{Area}
-use Rattle.ho_base.specs.declared.limits.TheConstants.{FILE_BYTES, MAX_ORDER}
-use Rattle.ho_base.specs.declared.numbers.Kind.{Kind}
-use Rattle.ho_base.specs.declared.numbers.Kind.TheVariants.{Memfd, Dev0, Dev1, Dev2, Dev3}
 use Rattle.ho_base.specs.declared.numbers.Pfn.{Pfn}
 use Rattle.phys_frames.specs.Memory.{FolioValue}
 use Rattle.record_frames.specs.Handover.{◌>>=◌}
 use Rattle.record_frames.specs.declared.carried.Carried.{Carried}
 use Rattle.record_frames.specs.declared.carried.CarriedFile.{CarriedFile}
 use Rattle.record_frames.specs.declared.carried.CarriedSession.{CarriedSession}
-
-abbrev pub is_memfd_kind : Kind → Bool
-is_memfd_kind Memfd = true
-is_memfd_kind Dev0 = false
-is_memfd_kind Dev1 = false
-is_memfd_kind Dev2 = false
-is_memfd_kind Dev3 = false
-
-abbrev pub is_memfd : CarriedFile → Bool
-is_memfd f = is_memfd_kind f.kind
-
--- order, size and position of a file are within the limits
-abbrev pub has_limits : CarriedFile → Bool
-has_limits f = nat_le f.order.0 MAX_ORDER && nat_le f.size FILE_BYTES && nat_le f.position f.size
 
 -- The frame behind the last of runs of an order that begin at these frames, where the first begins at a frame or behind it and
 -- each other where the one before it ends or behind it.

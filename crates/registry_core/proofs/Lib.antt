@@ -1,5 +1,8 @@
 pub mod FileNumbers
 pub mod FirstOf
+pub mod IncomingAnswers
+pub mod IncomingSteps
+pub mod OutgoingNames
 pub mod RegistryAnswers
 pub mod RegistryRuns
 pub mod RegistrySteps

@@ -14,7 +14,7 @@ use Rattle.registry_core.proofs.TakenSlots.{eqb_same}
 use Rattle.registry_core.specs.Registries.{create_answer, find_answer, file_answer}
 
 -- two facts of one state
-both : {P R : RegistryState → Type 0} → (Q : RegistryState → Type 0) → (o : Option RegistryState) → ((s : RegistryState) → P s → R s → Q s) → MatchOption o ⊥ P → MatchOption o ⊥ R → MatchOption o ⊥ Q
+pub both : {P R : RegistryState → Type 0} → (Q : RegistryState → Type 0) → (o : Option RegistryState) → ((s : RegistryState) → P s → R s → Q s) → MatchOption o ⊥ P → MatchOption o ⊥ R → MatchOption o ⊥ Q
 both Q None so p r = p
 both Q (Some s) so p r = so s p r
 

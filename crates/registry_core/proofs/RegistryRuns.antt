@@ -65,6 +65,7 @@ cold_keeps taken files t f = record {
   file_count = ap length f ∙ as_many FILES;
   told = λ k. none_used k ∙ sym (ap (λ l. slice_index_or l k false) t ∙ unset OUT_SLOTS k);
   apart = none_slotted;
+  incoming = λ q. (tt, tt);
 }
 
 pub empty_keeps : (names : List (List ℕ × Slots)) (taken files : List Bool) → names ≡ [] → taken ≡ replicate OUT_SLOTS false → files ≡ replicate FILES false → KeepsRegistry (shown (record { names = names; taken = taken; files = files })) [] (record { names = names; taken = taken; files = files })
@@ -104,6 +105,7 @@ stay_keeps start h e p event reply k stays ee er = record {
   file_count = k.file_count;
   told = k.told;
   apart = k.apart;
+  incoming = k.incoming;
 }
 
 -- the slot of a name
@@ -114,7 +116,7 @@ pub slot_told : (start : RegistryState) (h : List Entry) (p : Held) (name : List
 slot_told start h p name slots k is =
     told_at (λ s. finmap.get s.outgoing name ≡ option_map (λ x. x.0) slots.outgoing) start h p k (name_told start h p name k ∙ ap (λ s. option_map (λ x. x.0) s.outgoing) (sym is))
 
-set_within : (used : List Bool) (n k : ℕ) → length used ≡ n → slice_index_or used k false ≡ true → k < n
+pub set_within : (used : List Bool) (n k : ℕ) → length used ≡ n → slice_index_or used k false ≡ true → k < n
 set_within used n k count set = elim (nat_lt k n) as (λ b. nat_lt k n ≡ b → k < n) [ true ↦ λ t. less k n t | false ↦ λ f. absurd (clash (slice_index_or used k false) (past used n k count f) set) ] refl
   where
     less : (a b : ℕ) → nat_lt a b ≡ true → a < b

@@ -20,7 +20,7 @@ use Rattle.ho_events.specs.declared.reply.Reply.{Reply}
 use Rattle.ho_events.specs.declared.reply.Reply.TheVariants.{Ok, OkSlot, OkFile}
 use Rattle.registry_core.proofs.FileNumbers.{length_set, numbers_set, numbers_clear}
 use Rattle.registry_core.proofs.RegistryRuns.{shown_at, slot_within, turn_shows}
-use Rattle.registry_core.proofs.SlotMaps.{IsWritten, slots_put, slots_cleared, slots_same}
+use Rattle.registry_core.proofs.SlotMaps.{IsWritten, slots_put, slots_cleared, slots_same, incoming_written}
 use Rattle.registry_core.proofs.TakenSlots.{eqb_same, apart_put, apart_cleared, told_put, told_cleared, free_unused}
 use Rattle.registry_core.specs.declared.parts.Slots.{Slots}
 use Rattle.registry_core.specs.NameSlots.{slots_at, with_outgoing}
@@ -28,14 +28,14 @@ use Rattle.registry_core.specs.Registries.{IsInUse}
 use Rattle.registry_core.specs.RegistryShown.{Held, outgoing_slot, waiting_slot, opened_slot, slots_of, numbers_of, shown, AreApart, KeepsRegistry}
 
 -- a step, by the event and the reply of its entry
-step_at : (s t : RegistryState) (e : Entry) (event : Event) (reply : Reply) → e.event ≡ event → e.reply ≡ reply → registry_step s event reply ≡ Some t → registry_step s e.event e.reply ≡ Some t
+pub step_at : (s t : RegistryState) (e : Entry) (event : Event) (reply : Reply) → e.event ≡ event → e.reply ≡ reply → registry_step s event reply ≡ Some t → registry_step s e.event e.reply ≡ Some t
 step_at s t e event reply ee er h = ap (λ x. registry_step s x e.reply) ee ∙ ap (registry_step s event) er ∙ h
 
 -- states with the same names in the same slots
 abbrev state : SlotMap → SlotMap → SlotMap → finset.FinSet nat_cmp → RegistryState
 state outgoing waiting opened files = record { outgoing = outgoing; waiting = waiting; opened = opened; files = files }
 
-same_state : (a b c d e f : SlotMap) → a ≡ b → c ≡ d → e ≡ f → (files : finset.FinSet nat_cmp) → Some (state a c e files) ≡ Some (state b d f files)
+pub same_state : (a b c d e f : SlotMap) → a ≡ b → c ≡ d → e ≡ f → (files : finset.FinSet nat_cmp) → Some (state a c e files) ≡ Some (state b d f files)
 same_state a b c d e f g h i files = λ t. Some (state (g t) (h t) (i t) files)
 
 -- one more name
@@ -68,6 +68,7 @@ module _ (start : RegistryState) (h : List Entry) (e : Entry) (p : Held) (k : Ke
         file_count = k.file_count;
         told = λ j. ap (λ m. is_used m j) there ∙ told_put outgoing name slot.0 k.apart p.taken k.told is_new inside j;
         apart = subst AreApart (sym there) (apart_put outgoing name slot.0 k.apart unused);
+        incoming = incoming_written p.names names name _ written k.incoming (k.incoming name);
       }
 
   -- a name less
@@ -88,6 +89,7 @@ module _ (start : RegistryState) (h : List Entry) (e : Entry) (p : Held) (k : Ke
         file_count = k.file_count;
         told = λ j. ap (λ m. is_used m j) gone ∙ told_cleared outgoing name slot.0 k.apart p.taken k.told here inside j;
         apart = subst AreApart (sym gone) (apart_cleared outgoing name slot.0 k.apart);
+        incoming = incoming_written p.names names name _ written k.incoming (k.incoming name);
       }
 
 -- a number taken;  given back
@@ -104,6 +106,7 @@ file_keeps start h e p f k least below event reply =
       file_count = length_set p.files f.0 true FILES k.file_count;
       told = k.told;
       apart = k.apart;
+      incoming = k.incoming;
     }
 
 pub free_keeps : (start : RegistryState) (h : List Entry) (e : Entry) (p : Held) (f : FileNo) → KeepsRegistry start h p → MatchOption (registry_from start h) ⊥ (IsInUse f.0) → f.0 < FILES → e.event ≡ RegFreeFile f → e.reply ≡ Ok → KeepsRegistry start (h ++ e ∷ []) (record p { files = slice_set p.files f.0 false })
@@ -117,4 +120,5 @@ free_keeps start h e p f k in_use below event reply = record {
   file_count = length_set p.files f.0 false FILES k.file_count;
   told = k.told;
   apart = k.apart;
+  incoming = k.incoming;
 }

@@ -3,7 +3,7 @@ use Rattle.std.proofs.Common.{◌≡◌, ℕ, ◌||◌, Bool, true, false, cond,
 use Rattle.std.specs.Prelude.{Option, None, Some, option_map}
 use Rattle.std.specs.List.{list_any, AllByRecursion, IsDistinct}
 use Rattle.std.specs.Map.{keys_of, lookup}
-use Rattle.std.specs.Option.{unwrap_or}
+use Rattle.std.specs.Option.{unwrap_or, IfSome}
 use Rattle.std.specs.Ordering.{nat_cmp, eq_by_cmp}
 use Rattle.std.specs.Cmp.Lexicographic.{slice_cmp, nat_list_cmp_total, nat_list_eq_equiv, texts_ties, same_text}
 use Rattle.std.specs.FinMap as finmap
@@ -14,7 +14,8 @@ use Rattle.ho_base.specs.declared.numbers.SlotNo.{SlotNo}
 use Rattle.ho_events.specs.Lists.{same_bytes}
 use Rattle.registry_core.specs.declared.parts.Slots.{Slots}
 use Rattle.registry_core.specs.NameSlots.{no_slots, slots_at}
-use Rattle.registry_core.specs.RegistryShown.{with_slot, numbered, slots_of, names_of}
+use Rattle.registry_core.specs.Registries.{IsInSlot}
+use Rattle.registry_core.specs.RegistryShown.{with_slot, numbered, slots_of, names_of, AreIncoming}
 
 abbrev Names : Type 0
 Names = List (List ℕ × Slots)
@@ -44,7 +45,7 @@ with_miss : (q name : List ℕ) (o : Option SlotNo) (rest : List (List ℕ × �
 with_miss q name None rest h = refl
 with_miss q name (Some x) rest h = ap (λ b. cond b (Some x.0) (find cmp q rest)) h
 
-no_lookup : {V : Type 0} (test : List ℕ → Bool) (es : List (List ℕ × V)) → AllByRecursion (λ y. test y ≡ false) (keys_of es) → lookup test es ≡ None
+pub no_lookup : {V : Type 0} (test : List ℕ → Bool) (es : List (List ℕ × V)) → AllByRecursion (λ y. test y ≡ false) (keys_of es) → lookup test es ≡ None
 no_lookup test [] h = refl
 no_lookup test (e ∷ es) h = ap (λ b. cond b (Some e.1) (lookup test es)) h.0 ∙ no_lookup test es h.1
 
@@ -72,6 +73,20 @@ IsWritten old new name slots = (q : List ℕ) → lookup (same_bytes q) new ≡ 
 written_slots : (b : Bool) (s : Slots) (o : Option Slots) → unwrap_or (cond b (Some s) o) no_slots ≡ cond b s (unwrap_or o no_slots)
 written_slots true s o = refl
 written_slots false s o = refl
+
+-- the incoming slots of names once one is written
+slots_after : (old new : Names) (name : List ℕ) (slots : Slots) → IsWritten old new name slots → (q : List ℕ) → slots_at new q ≡ cond (same_bytes name q) slots (slots_at old q)
+slots_after old new name slots written q = ap (λ o. unwrap_or o no_slots) (written q) ∙ written_slots (same_bytes name q) slots (lookup (same_bytes q) old)
+
+abbrev BothIn : Slots → Type 0
+BothIn s = IfSome s.waiting IsInSlot × IfSome s.opened IsInSlot
+
+both_in : (b : Bool) (s t : Slots) → BothIn s → BothIn t → BothIn (cond b s t)
+both_in true s t h g = h
+both_in false s t h g = g
+
+pub incoming_written : (old new : Names) (name : List ℕ) (slots : Slots) → IsWritten old new name slots → AreIncoming old → IfSome slots.waiting IsInSlot × IfSome slots.opened IsInSlot → AreIncoming new
+incoming_written old new name slots written are h q = subst BothIn (sym (slots_after old new name slots written q)) (both_in (same_bytes name q) slots (slots_at old q) h (are q))
 
 of_either : (kind : Slots → Option SlotNo) (b : Bool) (s t : Slots) → option_map number (kind (cond b s t)) ≡ cond b (option_map number (kind s)) (option_map number (kind t))
 of_either kind true s t = refl

@@ -24,10 +24,10 @@ same = eq_by_cmp cmp
 is_same : (a b : List ℕ) → same a b ≡ true → a ≡ b
 is_same a b h = same_name a b (texts_ties a b ∙ h)
 
-itself : (a : List ℕ) → same a a ≡ true
+pub itself : (a : List ℕ) → same a a ≡ true
 itself a = sym (texts_ties a a) ∙ nat_list_eq_equiv.refl a
 
-not_some : {X : Type 0} (x : X) → ◌≡◌ {A = Option X} (Some x) None → ⊥
+pub not_some : {X : Type 0} (x : X) → ◌≡◌ {A = Option X} (Some x) None → ⊥
 not_some x h = cc
 
 some_is : (a b : ℕ) → Some a ≡ Some b → a ≡ b
@@ -79,14 +79,14 @@ left_true : (a b : Bool) → IsTrue (a && b) → IsTrue a
 left_true true b h = refl
 left_true false b h = cc
 
-right_true : (a b : Bool) → IsTrue (a && b) → IsTrue b
+pub right_true : (a b : Bool) → IsTrue (a && b) → IsTrue b
 right_true true b h = h
 right_true false b h = cc
 
-abbrev Slotted : Type 0
+abbrev pub Slotted : Type 0
 Slotted = List (List ℕ × ℕ)
 
-abbrev Finds : Slotted → ℕ → Type 0
+abbrev pub Finds : Slotted → ℕ → Type 0
 Finds es k = (name : List ℕ) × (find cmp name es ≡ Some k)
 
 both_true : (a b : Bool) → IsTrue a → IsTrue b → IsTrue (a && b)
@@ -98,7 +98,7 @@ less_is Less h = refl
 less_is Equal h = cc
 less_is Greater h = cc
 
-head_once : (e : List ℕ × ℕ) (es : Slotted) → IsTrue (is_sorted cmp (e ∷ es)) → find cmp e.0 es ≡ None
+pub head_once : (e : List ℕ × ℕ) (es : Slotted) → IsTrue (is_sorted cmp (e ∷ es)) → find cmp e.0 es ≡ None
 head_once e [] h = refl
 head_once e (f ∷ es) h =
     let least = left_true _ (is_sorted cmp (f ∷ es)) h in
@@ -106,14 +106,14 @@ head_once e (f ∷ es) h =
     ap (λ b. cond b (Some f.1) (find cmp e.0 es)) (less_is (cmp e.0 f.0) less)
     ∙ head_once e es (both_true _ _ (right_true (is_lt (cmp e.0 f.0)) _ least) (right_true _ (is_sorted cmp es) (right_true _ (is_sorted cmp (f ∷ es)) h)))
 
-found_later : (e : List ℕ × ℕ) (es : Slotted) (k : ℕ) (name : List ℕ) → find cmp e.0 es ≡ None → find cmp name es ≡ Some k → find cmp name (e ∷ es) ≡ Some k
+pub found_later : (e : List ℕ × ℕ) (es : Slotted) (k : ℕ) (name : List ℕ) → find cmp e.0 es ≡ None → find cmp name es ≡ Some k → find cmp name (e ∷ es) ≡ Some k
 found_later e es k name none here =
     elim (same name e.0) as (λ b. same name e.0 ≡ b → cond b (Some e.1) (find cmp name es) ≡ Some k) [
       | true ↦ λ t. absurd (not_some k (sym here ∙ ap (λ x. find cmp x es) (is_same name e.0 t) ∙ none))
       | false ↦ λ f. here
     ] refl
 
-found : (es : Slotted) (k : ℕ) → IsTrue (is_sorted cmp es) → list_any (λ s. s == k) (map (λ e. e.1) es) ≡ true → Finds es k
+pub found : (es : Slotted) (k : ℕ) → IsTrue (is_sorted cmp es) → list_any (λ s. s == k) (map (λ e. e.1) es) ≡ true → Finds es k
 found [] k sorted h = absurd cc
 found (e ∷ es) k sorted h =
     elim (e.1 == k) as (λ b. (e.1 == k) ≡ b → (b || list_any (λ s. s == k) (map (λ e. e.1) es)) ≡ true → Finds (e ∷ es) k) [
@@ -126,7 +126,7 @@ found (e ∷ es) k sorted h =
     is_number : (a b : ℕ) → (a == b) ≡ true → a ≡ b
     is_number a b h = grind (arith, nat_tests)
 
-tested : (b : Bool) → T b → IsTrue b
+pub tested : (b : Bool) → T b → IsTrue b
 tested true h = refl
 tested false h = absurd h
 

@@ -1,15 +1,15 @@
 -- Names that wait in one slot after the other.
-use Rattle.std.proofs.Common.{◌≡◌, ℕ, ◌+◌, ◌≤◌, ◌<◌, Bool, false, cond, List, [], ◌∷◌, ◌++◌, length, replicate, slice_index_or, drop, refl, ap, sym, ◌∙◌, arith, IsTrue, is_some, subst, ◌↔◌, zero, suc, add-one}
+use Rattle.std.proofs.Common.{◌≡◌, ℕ, ◌+◌, ◌≤◌, ◌<◌, Bool, true, false, cond, List, [], ◌∷◌, ◌++◌, length, replicate, slice_index_or, drop, refl, ap, sym, ◌∙◌, arith, IsTrue, is_some, subst, ◌↔◌, zero, suc, add-one}
 use Rattle.std.specs.Prelude.{None, Some, option_map}
 use Rattle.std.specs.List.{IsDistinct, AllByRecursion}
 use Rattle.std.specs.Map.{keys_of, lookup}
 use Rattle.std.specs.Ordering.{nat_cmp}
 use Rattle.std.specs.Cmp.Lexicographic.{nat_list_eq_equiv}
-use Rattle.std.specs.Option.{MatchOption}
+use Rattle.std.specs.Option.{MatchOption, IfSome, unwrap_or}
 use Rattle.std.specs.FinMap as finmap
 use Rattle.std.specs.FinSet as finset
 use Rattle.std.proofs.lemmas.Map.Keys.{IsDistinct-head, IsDistinct-tail}
-use Rattle.ho_base.specs.declared.limits.TheConstants.{OUT_SLOTS, FILES}
+use Rattle.ho_base.specs.declared.limits.TheConstants.{OUT_SLOTS, IN_SLOTS, FILES}
 use Rattle.ho_events.specs.Lists.{same_bytes}
 use Rattle.ho_events.specs.Registry.{RegistryState, is_used, Slots as SlotMap}
 use Rattle.ho_events.specs.History.{run_from, registry_from}
@@ -18,9 +18,9 @@ use Rattle.registry_core.proofs.FileNumbers.{numbers_first, count_first}
 use Rattle.registry_core.proofs.RegistryRuns.{out_is, told_at, none_used, none_slotted, unset, as_many}
 use Rattle.registry_core.proofs.SlotMaps.{get_slots}
 use Rattle.registry_core.specs.declared.parts.Slots.{Slots}
-use Rattle.registry_core.specs.NameSlots.{slots_at, waits_in, waiting_from}
-use Rattle.registry_core.specs.Registries.{IsOpened, slotted_from, waiting_registry}
-use Rattle.registry_core.specs.RegistryShown.{Held, outgoing_slot, waiting_slot, opened_slot, numbered, slots_of, numbers_of, names_of, shown, AreApart, KeepsRegistry}
+use Rattle.registry_core.specs.NameSlots.{no_slots, slots_at, waits_in, waiting_from}
+use Rattle.registry_core.specs.Registries.{IsInSlot, IsOpened, slotted_from, waiting_registry}
+use Rattle.registry_core.specs.RegistryShown.{Held, outgoing_slot, waiting_slot, opened_slot, numbered, slots_of, numbers_of, names_of, shown, AreApart, AreIncoming, KeepsRegistry}
 use Rattle.registry_core.specs.UsedNumbers.{used_first}
 
 abbrev Names : Type 0
@@ -120,6 +120,16 @@ module _ (names : List (List ℕ)) (i slot room : ℕ) (es : Names) (d : List �
 pub slotted_all : (names : List (List ℕ)) (i slot room : ℕ) (es : Names) → AreSlotted names i slot room es → length names ≤ i → es ≡ waiting_from OUT_SLOTS names
 slotted_all names i slot room es s h = sym (nothing_behind es) ∙ ap (λ rest. es ++ waiting_from slot rest) (sym (none_left names i h)) ∙ s.listed
 
+-- they wait in incoming slots
+all_incoming : (slot : ℕ) (names : List (List ℕ)) → OUT_SLOTS ≤ slot → slot + length names ≤ OUT_SLOTS + IN_SLOTS → AreIncoming (waiting_from slot names)
+all_incoming slot [] low high q = (tt, tt)
+all_incoming slot (n ∷ names) low high q = either (same_bytes q n) (all_incoming (slot + 1) names (omega (arith, low)) (omega (arith, high)) q)
+  where
+    either : (b : Bool) → IfSome (slots_at (waiting_from (slot + 1) names) q).waiting IsInSlot × IfSome (slots_at (waiting_from (slot + 1) names) q).opened IsInSlot
+        → IfSome (unwrap_or (cond b (Some (waits_in slot)) (lookup (same_bytes q) (waiting_from (slot + 1) names))) no_slots).waiting IsInSlot × IfSome (unwrap_or (cond b (Some (waits_in slot)) (lookup (same_bytes q) (waiting_from (slot + 1) names))) no_slots).opened IsInSlot
+    either true rest = ((low, omega (arith, high)), tt)
+    either false rest = rest
+
 -- a registry with these names, without entries
 module _ (names : List (List ℕ)) (es : Names) (is : es ≡ waiting_from OUT_SLOTS names) where
   outgoing_none : slots_of outgoing_slot es ≡ slots_of outgoing_slot []
@@ -149,15 +159,16 @@ module _ (names : List (List ℕ)) (es : Names) (is : es ≡ waiting_from OUT_SL
       ∙ ap (λ m. state finmap.empty (finmap.from_entries (slotted_from OUT_SLOTS names)) m (numbers_of files)) opened_none
       ∙ ap (state finmap.empty (finmap.from_entries (slotted_from OUT_SLOTS names)) finmap.empty) (numbers_first files n f within)
 
-  pub waiting_keeps : (taken files : List Bool) (n : ℕ) → IsDistinct same_bytes (keys_of es) → taken ≡ replicate OUT_SLOTS false → files ≡ used_first n FILES → n ≤ FILES → KeepsRegistry (shown (record { names = es; taken = taken; files = files })) [] (record { names = es; taken = taken; files = files })
+  pub waiting_keeps : (taken files : List Bool) (n : ℕ) → IsDistinct same_bytes (keys_of es) → taken ≡ replicate OUT_SLOTS false → files ≡ used_first n FILES → n ≤ FILES → OUT_SLOTS + length names ≤ OUT_SLOTS + IN_SLOTS → KeepsRegistry (shown (record { names = es; taken = taken; files = files })) [] (record { names = es; taken = taken; files = files })
   unfolding run_from
-  waiting_keeps taken files n unique t f within = record {
+  waiting_keeps taken files n unique t f within few = record {
     replayed = refl;
     unique = unique;
     slot_count = ap length t ∙ as_many OUT_SLOTS;
     file_count = ap length f ∙ count_first n FILES within;
     told = λ k. ap (λ m. is_used m k) outgoing_none ∙ none_used k ∙ sym (ap (λ l. slice_index_or l k false) t ∙ unset OUT_SLOTS k);
     apart = subst AreApart (sym outgoing_none) none_slotted;
+    incoming = subst AreIncoming (sym is) (all_incoming OUT_SLOTS names (omega arith) few);
   }
 
 -- the slot in which a name was opened

@@ -1,4 +1,5 @@
 pub mod NameSlots
+pub mod Outgoing
 pub mod Registries
 pub mod RegistryShown
 pub mod RegistryValues

@@ -19,6 +19,13 @@ slots_at names name = unwrap_or (lookup (same_bytes name) names) no_slots
 abbrev pub with_outgoing : Option SlotNo → Slots → Slots
 with_outgoing slot slots = record slots { outgoing = slot }
 
+-- slots of a name that is opened in this one, and waits no longer;  of a name that is opened no longer
+abbrev pub opened_in : SlotNo → Slots → Slots
+opened_in slot slots = record slots { waiting = None; opened = Some slot }
+
+abbrev pub without_opened : Slots → Slots
+without_opened slots = record slots { opened = None }
+
 -- a name that waits in a slot
 abbrev pub waits_in : ℕ → Slots
 waits_in slot = record { outgoing = None; waiting = Some (record { 0 = slot }); opened = None }

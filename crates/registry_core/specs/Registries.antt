@@ -1,15 +1,16 @@
 -- What the registry answers.
-use Rattle.std.specs.Prelude.{ℕ, ◌+◌, ◌<◌, List, [], ◌∷◌, IsTrue}
+use Rattle.std.specs.Prelude.{ℕ, ◌+◌, ◌<◌, ◌≤◌, List, [], ◌∷◌, IsTrue}
 use Rattle.std.specs.Prelude.{Option, None, Some}
 use Rattle.std.specs.Cmp.Lexicographic.{slice_cmp}
 use Rattle.std.specs.Ordering.{nat_cmp}
 use Rattle.std.specs.FinMap as finmap
 use Rattle.std.specs.FinSet as finset
-use Rattle.ho_base.specs.declared.limits.TheConstants.{OUT_SLOTS, FILES}
+use Rattle.ho_base.specs.declared.limits.TheConstants.{OUT_SLOTS, IN_SLOTS, FILES}
+use Rattle.ho_base.specs.declared.numbers.SlotNo.{SlotNo}
 use Rattle.ho_events.specs.Lists.{upto}
 use Rattle.ho_events.specs.Registry.{RegistryState, cold_registry}
 use Rattle.ho_events.specs.declared.reply.Reply.{Reply}
-use Rattle.ho_events.specs.declared.reply.Reply.TheVariants.{OkFile, OkSlot, FilesFull, NameTaken, SessionsFull, NoSession}
+use Rattle.ho_events.specs.declared.reply.Reply.TheVariants.{OkFile, OkSlot, FilesFull, NameTaken, SessionsFull, NoSession, AlreadyOpen}
 
 -- what a new name is answered, by its slot where it is outgoing already, and by the least free slot
 abbrev pub create_answer : Option ℕ → Option ℕ → Reply
@@ -21,6 +22,12 @@ create_answer None (Some slot) = OkSlot (record { 0 = slot })
 abbrev pub find_answer : Option ℕ → Reply
 find_answer None = NoSession
 find_answer (Some slot) = OkSlot (record { 0 = slot })
+
+-- what the wish to open a name is answered, by the slot in which it was opened, and by the one in which it waits
+abbrev pub open_answer : Option ℕ → Option ℕ → Reply
+open_answer (Some opened) waiting = AlreadyOpen
+open_answer None None = NoSession
+open_answer None (Some slot) = OkSlot (record { 0 = slot })
 
 -- what the wish for a file number is answered, by the least free one
 abbrev pub file_answer : Option ℕ → Reply
@@ -49,6 +56,14 @@ abbrev pub IsWithin : Reply → Type 0
 IsWithin (OkSlot slot) = slot.0 < OUT_SLOTS
 IsWithin (OkFile f) = f.0 < FILES
 IsWithin reply = Unit {0}
+
+-- a slot is an incoming one;  a slot that is answered is one
+abbrev pub IsInSlot : SlotNo → Type 0
+IsInSlot slot = (OUT_SLOTS ≤ slot.0) × (slot.0 < OUT_SLOTS + IN_SLOTS)
+
+abbrev pub IsWithinIn : Reply → Type 0
+IsWithinIn (OkSlot slot) = IsInSlot slot
+IsWithinIn reply = Unit {0}
 
 -- names with one slot after the other, from a slot on
 abbrev pub slotted_from : ℕ → List (List ℕ) → List (List ℕ × ℕ)

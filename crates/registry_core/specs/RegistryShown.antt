@@ -1,5 +1,5 @@
 -- How the parts of the registry show its state.
-use Rattle.std.specs.Prelude.{◌≡◌, ℕ, Bool, false, List, [], ◌∷◌, length, slice_index_or}
+use Rattle.std.specs.Prelude.{◌≡◌, ℕ, Bool, false, List, [], ◌∷◌, length, slice_index_or, IfSome}
 use Rattle.std.specs.Prelude.{Option, Some}
 use Rattle.std.specs.List.{IsDistinct}
 use Rattle.std.specs.Map.{keys_of}
@@ -14,6 +14,8 @@ use Rattle.ho_events.specs.Lists.{same_bytes, upto}
 use Rattle.ho_events.specs.Registry.{RegistryState, is_used, Slots as SlotMap}
 use Rattle.ho_events.specs.History.{registry_from}
 use Rattle.ho_events.specs.declared.entry.Entry.{Entry}
+use Rattle.registry_core.specs.NameSlots.{slots_at}
+use Rattle.registry_core.specs.Registries.{IsInSlot}
 use Rattle.registry_core.specs.declared.parts.Parts.{Parts}
 use Rattle.registry_core.specs.declared.parts.Slots.{Slots}
 
@@ -73,6 +75,10 @@ shown p = record {
 abbrev pub AreApart : SlotMap → Type 0
 AreApart slots = (a b : List ℕ) (k : ℕ) → finmap.get slots a ≡ Some k → finmap.get slots b ≡ Some k → a ≡ b
 
+-- each name waits in an incoming slot, if in any, and was opened in one, if in any
+abbrev pub AreIncoming : List (List ℕ × Slots) → Type 0
+AreIncoming names = (q : List ℕ) → IfSome (slots_at names q).waiting IsInSlot × IfSome (slots_at names q).opened IsInSlot
+
 -- the history is a run from the start to the state that the parts show
 pub record KeepsRegistry (start : RegistryState) (history : List Entry) (p : Held) : Type 0 where
   pub replayed : registry_from start history ≡ Some (shown p)
@@ -81,3 +87,4 @@ pub record KeepsRegistry (start : RegistryState) (history : List Entry) (p : Hel
   pub file_count : length p.files ≡ FILES
   pub told : (k : ℕ) → is_used (slots_of outgoing_slot p.names) k ≡ slice_index_or p.taken k false
   pub apart : AreApart (slots_of outgoing_slot p.names)
+  pub incoming : AreIncoming p.names

@@ -2,7 +2,9 @@
 #![tactic(auto)]
 
 mod carried;
+mod incoming;
 mod numbers;
+mod outgoing;
 mod parts;
 mod registry;
 

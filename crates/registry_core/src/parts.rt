@@ -4,7 +4,7 @@ ghost use Rattle.std.specs.Prelude.{◌≡◌, ◌+◌, ◌<◌, ◌≤◌, IfOk
 ghost use Rattle.ho_base.specs.declared.limits.TheConstants.{OUT_SLOTS, FILES};
 ghost use Rattle.ho_events.specs.Lists.{same_bytes};
 ghost use Rattle.indexmap.specs.IndexMap.{spare, keys, get, IsUnique, Updates};
-ghost use Rattle.registry_core.specs.NameSlots.{slots_at, with_outgoing};
+ghost use Rattle.registry_core.specs.NameSlots.{opened_in, slots_at, with_outgoing, without_opened};
 
 use crate::numbers::Numbers;
 use ho_base::limits::{FILES, OUT_SLOTS};
@@ -99,5 +99,35 @@ impl Parts {
             slots.outgoing = None;
         }
         self.taken.give(slot.0 as usize);
+    }
+    /// Opens a name in this slot: it waits no longer, and its outgoing slot stays.
+    pub(crate) fn open(&mut self, name: Name, slot: SlotNo)
+        requires ready { IsSome (get same_bytes self.old.names name) }
+        ensures names { Updates same_bytes self.old.names self.new.names name (Some (opened_in slot (slots_at self.old.names.entries name))) }
+        ensures keys { keys self.new.names ≡ keys self.old.names }
+        ensures unique { IsUnique same_bytes self.new.names }
+        ensures spare { spare self.new.names ≡ spare self.old.names }
+        ensures taken { self.new.taken ≡ self.old.taken }
+        ensures files { self.new.files ≡ self.old.files }
+    {
+        if let Some(slots) = self.names.get_mut(&name) {
+            slots.waiting = None;
+            slots.opened = Some(slot);
+        }
+    }
+
+    /// Ends a name that was opened: it stays ready, and its other slots stay.
+    pub(crate) fn end_in(&mut self, name: Name)
+        requires ready { IsSome (get same_bytes self.old.names name) }
+        ensures names { Updates same_bytes self.old.names self.new.names name (Some (without_opened (slots_at self.old.names.entries name))) }
+        ensures keys { keys self.new.names ≡ keys self.old.names }
+        ensures unique { IsUnique same_bytes self.new.names }
+        ensures spare { spare self.new.names ≡ spare self.old.names }
+        ensures taken { self.new.taken ≡ self.old.taken }
+        ensures files { self.new.files ≡ self.old.files }
+    {
+        if let Some(slots) = self.names.get_mut(&name) {
+            slots.opened = None;
+        }
     }
 }

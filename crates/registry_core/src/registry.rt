@@ -271,7 +271,7 @@ impl Registry {
     }
 
     /// A turn that leaves the registry as it is.
-    fn stay(&mut self, slip: Slip, event: Event, reply: Reply) -> Turned<Reply>
+    pub(crate) fn stay(&mut self, slip: Slip, event: Event, reply: Reply) -> Turned<Reply>
         requires stays { RegistryIs self.old (λ s. registry_step s event reply ≡ Some s) }
         requires event { EventIsPlain event }
         requires reply { ReplyIsPlain reply }

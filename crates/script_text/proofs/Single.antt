@@ -1,11 +1,10 @@
--- Every script that is read has one kernel, and its agents work one after another.
+-- Every script that is read has agents that work one after another.
 use Rattle.std.proofs.Common.{◌≡◌, ℕ, ◌+◌, ◌<◌, ◌≤◌, Bool, true, false, cond, ◌&&◌, List, [], ◌∷◌, ◌++◌, length, refl, arith, Option, Some, None, Ok}
 use Rattle.std.specs.List.{list_all}
 use Rattle.std.specs.Prelude.{IsTrue, option_to_list, nat_le, unwrap_or}
 use Rattle.std.specs.Result.{result_ok}
 use Rattle.std.proofs.lemmas.Bool.Decides.{nat_tests}
 use Rattle.ho_base.specs.declared.limits.TheConstants.{AGENTS}
-use Rattle.ho_base.specs.declared.numbers.Blob.{Blob}
 use Rattle.ho_events.specs.Script.{placed, passes_limit, is_full, finished, outcome_of}
 use Rattle.ho_events.specs.Script.Lines.{line_of_words}
 use Rattle.ho_events.specs.Script.Rules.{is_said, is_agent_section, is_single_block, is_single_script}
@@ -27,8 +26,8 @@ use Rattle.script_text.proofs.Said.{said}
 use Rattle.script_text.proofs.Small.{none_yet}
 use Rattle.script_text.proofs.Taken.{pick, ok_is, ok_of, taken_is, keeps_all}
 
--- each block so far is a round of one section at most, and so is the open round; their agents are ones that were
--- named, and no more were named than there may be
+-- each block so far is a kexec or a round of one section at most, and the open round is such a round; their agents are
+-- ones that were named, and no more were named than there may be
 abbrev section_within : Option AgentWork → Bool
 section_within None = true
 section_within (Some work) = is_agent_section work
@@ -40,14 +39,10 @@ record IsSingle (r : Reading) : Type 0 where
   works : r.works ≡ []
   section : section_within r.section ≡ true
 
--- a line with one of these two first words isn't taken
+-- a line of a planned failure isn't taken
 no_fail : {P : Type 0} (v : Verb) (fail : plan.Fail) → is_unbuilt_verb v ≡ false → is_said v (Fail fail) ≡ true → P
 no_fail verb.Fail fail built h = absurd (cc)
 no_fail v fail built h = absurd (cc)
-
-no_kexec : {P : Type 0} (v : Verb) (blob : Blob) → is_unbuilt_verb v ≡ false → is_said v (Kexec blob) ≡ true → P
-no_kexec verb.Kexec blob built h = absurd (cc)
-no_kexec v blob built h = absurd (cc)
 
 -- the blocks once the open round is over
 single_works : (works : List AgentWork) (section : Option AgentWork) → works ≡ [] → section_within section ≡ true
@@ -92,7 +87,10 @@ single_with r v (Scratch area) h built says room rest = record { unplanned = h.u
 single_with r v (Fail fail) h built says room rest = no_fail v fail built says
 single_with r v Round h built says room rest = record { unplanned = h.unplanned; few = h.few; blocks = single_closed r h; works = refl; section = refl }
 single_with r v (Agent name) h built says room rest = single_agent r name h room rest
-single_with r v (Kexec blob) h built says room rest = no_kexec v blob built says
+single_with r v (Kexec blob) h built says room rest =
+    let blocks : list_all is_single_block (blocks_so_far r ++ block.Kexec blob ∷ []) ≡ true =
+    all_push is_single_block (blocks_so_far r) (block.Kexec blob) (single_closed r h) refl in
+    record { unplanned = h.unplanned; few = h.few; blocks = blocks; works = refl; section = refl }
 single_with r v (Act command) h built says room rest = single_command r r.section command refl h
 
 single_line : (r next : Reading) (ws : List (List ℕ)) (l : Line) → IsSingle r → line_of_words ws ≡ Ok l → placed r l ≡ Ok next → IsSingle next

@@ -4,11 +4,11 @@ use Rattle.std.specs.List.{list_all}
 use Rattle.std.specs.Prelude.{IsTrue, option_to_list, nat_le, unwrap_or, is_some}
 use Rattle.std.proofs.lemmas.Bool.Decides.{nat_tests}
 use Rattle.std.proofs.lemmas.List.{length-append}
-use Rattle.ho_base.specs.declared.limits.TheConstants.{COMMANDS}
+use Rattle.ho_base.specs.declared.limits.TheConstants.{KEXECS, COMMANDS}
 use Rattle.std.specs.Result.{result_ok}
 use Rattle.ho_events.specs.Script.{placed, is_misplaced, passes_limit, finished, outcome_of}
 use Rattle.ho_events.specs.Script.Lines.{line_of_words}
-use Rattle.ho_events.specs.Script.Rules.{sections_of, total_commands, is_alone, is_small_script}
+use Rattle.ho_events.specs.Script.Rules.{sections_of, total_commands, kexecs_in, is_alone, is_small_script}
 use Rattle.ho_events.specs.Script.SoFar.{Reading, sections, blocks_so_far, begun, place_of, with_agent, with_command, with_line, nothing_read}
 use Rattle.ho_events.specs.Script.Unbuilt.{is_unbuilt, has_any_section}
 use Rattle.ho_events.specs.declared.command.Command.{Command}
@@ -30,6 +30,16 @@ total-append : (xs ys : List AgentWork) → total_commands (xs ++ ys) ≡ total_
 total-append [] ys = omega arith
 total-append (x ∷ xs) ys = omega (arith, total-append xs ys)
 
+kexecs-append : (xs ys : List Block) → kexecs_in (xs ++ ys) ≡ kexecs_in xs + kexecs_in ys
+kexecs-append [] ys = omega arith
+kexecs-append (block.Round works ∷ xs) ys = kexecs-append xs ys
+kexecs-append (block.Kexec blob ∷ xs) ys = omega (arith, kexecs-append xs ys)
+
+-- a round that ends is no kexec
+kexecs_so_far : (opened : Bool) (blocks : List Block) (works : List AgentWork) → kexecs_in (cond opened (blocks ++ block.Round works ∷ []) blocks) ≡ kexecs_in blocks
+kexecs_so_far true blocks works = omega (arith, kexecs-append blocks (block.Round works ∷ []))
+kexecs_so_far false blocks works = refl
+
 -- all sections so far
 abbrev all_of : Reading → List AgentWork
 all_of r = sections_of r.blocks ++ (r.works ++ option_to_list r.section)
@@ -38,6 +48,8 @@ record IsSmall (r : Reading) : Type 0 where
   total : total_commands (all_of r) ≡ r.commands
   few : r.commands ≤ COMMANDS
   alone : list_all is_alone r.blocks ≡ true
+  kexecs : kexecs_in r.blocks ≡ r.kexecs
+  boots : r.kexecs ≤ KEXECS
   works : r.works ≡ []
   over : r.open_round ≡ false → (r.works ≡ []) × (r.section ≡ None)
 
@@ -76,6 +88,8 @@ small_command r (Some w) command last room h =
       total = rw now (more_commands before w command ∙ ap (λ n. n + 1) total);
       few = few;
       alone = h.alone;
+      kexecs = h.kexecs;
+      boots = h.boots;
       works = h.works;
       over = λ shut. none_some r.section w (h.over shut).1 last;
     }
@@ -103,25 +117,44 @@ small_agent r name h first opened =
       total = nothing_more (sections_of r.blocks) (sections r) (begun r.counts (unwrap_or (place_of r.agents name) (length r.agents))) r.commands refl total;
       few = h.few;
       alone = h.alone;
+      kexecs = h.kexecs;
+      boots = h.boots;
       works = none;
       over = λ shut. absurd (cc);
     }
 
+-- a kexec line that is taken is at most the last one that may be
+more_boots : (n : ℕ) → nat_le KEXECS n ≡ false → n + 1 ≤ KEXECS
+more_boots n room = grind (arith, nat_tests)
+
 small_with : (r : Reading) (l : Line) → IsSmall r → is_misplaced r l ≡ false → passes_limit r l ≡ false → is_unbuilt r l ≡ false → IsSmall (with_line r l)
 unfolding with_line
-small_with r (Machine n) h place limit built = record { total = h.total; few = h.few; alone = h.alone; works = h.works; over = h.over }
-small_with r (Scratch area) h place limit built = record { total = h.total; few = h.few; alone = h.alone; works = h.works; over = h.over }
-small_with r (Fail fail) h place limit built = record { total = h.total; few = h.few; alone = h.alone; works = h.works; over = h.over }
+small_with r (Machine n) h place limit built = record { total = h.total; few = h.few; alone = h.alone; kexecs = h.kexecs; boots = h.boots; works = h.works; over = h.over }
+small_with r (Scratch area) h place limit built = record { total = h.total; few = h.few; alone = h.alone; kexecs = h.kexecs; boots = h.boots; works = h.works; over = h.over }
+small_with r (Fail fail) h place limit built = record { total = h.total; few = h.few; alone = h.alone; kexecs = h.kexecs; boots = h.boots; works = h.works; over = h.over }
 small_with r Round h place limit built =
     let same : sections_of (blocks_so_far r) ++ [] ≡ all_of r = append-nil _ ∙ over_is r.open_round r.blocks r.works r.section h.over in
-    record { total = rw same h.total; few = h.few; alone = alone_closed r h; works = refl; over = λ shut. absurd (cc) }
+    record {
+      total = rw same h.total;
+      few = h.few;
+      alone = alone_closed r h;
+      kexecs = kexecs_so_far r.open_round r.blocks (sections r) ∙ h.kexecs;
+      boots = h.boots;
+      works = refl;
+      over = λ shut. absurd (cc);
+    }
 small_with r (Kexec blob) h place limit built =
     let same : sections_of (blocks_so_far r ++ block.Kexec blob ∷ []) ++ [] ≡ all_of r =
     append-nil _ ∙ sections-append (blocks_so_far r) (block.Kexec blob ∷ []) ∙ append-nil _ ∙ over_is r.open_round r.blocks r.works r.section h.over in
+    let before : kexecs_in (blocks_so_far r) ≡ r.kexecs = kexecs_so_far r.open_round r.blocks (sections r) ∙ h.kexecs in
+    let one_more : kexecs_in (blocks_so_far r ++ block.Kexec blob ∷ []) ≡ r.kexecs + 1 =
+    omega (arith, kexecs-append (blocks_so_far r) (block.Kexec blob ∷ []), before) in
     record {
       total = rw same h.total;
       few = h.few;
       alone = all_push is_alone (blocks_so_far r) (block.Kexec blob) (alone_closed r h) refl;
+      kexecs = one_more;
+      boots = more_boots r.kexecs limit;
       works = refl;
       over = λ _. (refl, refl);
     }
@@ -141,14 +174,19 @@ small_end r script h read =
     let same = ok_is built script rest.1 in
     let total : total_commands (sections_of (blocks_so_far r)) ≡ r.commands = ap total_commands (over_is r.open_round r.blocks r.works r.section h.over) ∙ h.total in
     let few : nat_le (total_commands (sections_of (blocks_so_far r))) COMMANDS ≡ true = few_is _ r.commands total h.few in
-    rw (← same) (both _ _ few (alone_closed r h))
+    let kexecs : kexecs_in (blocks_so_far r) ≡ r.kexecs = kexecs_so_far r.open_round r.blocks (sections r) ∙ h.kexecs in
+    let boots : nat_le (kexecs_in (blocks_so_far r)) KEXECS ≡ true = few_boots _ r.kexecs kexecs h.boots in
+    rw (← same) (both _ _ few (both _ _ (alone_closed r h) boots))
   where
     few_is : (n m : ℕ) → n ≡ m → m ≤ COMMANDS → nat_le n COMMANDS ≡ true
     few_is n m same few = grind (arith, nat_tests)
 
+    few_boots : (n m : ℕ) → n ≡ m → m ≤ KEXECS → nat_le n KEXECS ≡ true
+    few_boots n m same few = grind (arith, nat_tests)
+
 pub small_script : (fresh : Bool) (bytes : List ℕ) (script : Script) → result_ok (outcome_of fresh bytes) ≡ Some script → IsTrue (is_small_script script)
 unfolding outcome_of
 small_script fresh bytes script read =
-    let small : IsSmall (nothing_read fresh) = record { total = refl; few = omega arith; alone = refl; works = refl; over = λ _. (refl, refl) } in
+    let small : IsSmall (nothing_read fresh) = record { total = refl; few = omega arith; alone = refl; kexecs = refl; boots = omega arith; works = refl; over = λ _. (refl, refl) } in
     let end = keeps_all IsSmall small_line 1 (nothing_read fresh) _ script small (ok_of _ script read) in
     small_end end.0 script (end.1).0 (end.1).1

@@ -81,13 +81,13 @@ pub fn is_read_shaped()
     ensures { (fresh : Bool) (bytes : List ℕ) (script : AScript) → script_of fresh bytes ≡ Some script → is_some script.shape ≡ fresh }
 {}
 
-/// A script has one kernel and no planned failures, and each of its blocks is a round of at most one section, of an
-/// agent whose number is from 1 to 15.
+/// A script has no planned failures, and each of its blocks is a kexec, or a round of at most one section, of an agent
+/// whose number is from 1 to 15.
 pub fn is_read_single()
     ensures { (fresh : Bool) (bytes : List ℕ) (script : AScript) → script_of fresh bytes ≡ Some script → IsTrue (is_single_script script) }
 {}
 
-/// A script has 4,096 commands at most, and one section at most in each round.
+/// A script has 4,096 commands at most, one section at most in each round, and 8 kexecs at most.
 pub fn is_read_small()
     ensures { (fresh : Bool) (bytes : List ℕ) (script : AScript) → script_of fresh bytes ≡ Some script → IsTrue (is_small_script script) }
 {}

@@ -151,4 +151,4 @@ list_keeps start h e None (Some own) files name token file handle k is event rep
     let new : has_token token.0 files ≡ false = taken_at own files name token.0 a k.rising in
     turn_keeps start h e None None (Some own) (Some own) files _ k
     (rw (event, reply) (step_of_add _ name token file handle Ok ∙ only_true _ _ a ∙ ap Some (with_shown own files (token, file, handle) k.rising new)))
-    (still_rising files (token, file, handle) k.rising new) (files_insert _ (token, file, handle) files less k.within) tt
+    (still_rising files (token, file, handle) k.rising new) (files_insert _ (token, file, handle) files less k.within) tt tt

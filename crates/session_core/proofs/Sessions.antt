@@ -25,12 +25,12 @@ use Rattle.session_core.proofs.Tokens.{token_among}
 use Rattle.ho_events.proofs.Runs.{run_push}
 use Rattle.session_core.specs.Sessions.{IsFree, name_of, refusal_by, refusal_of, close_answer}
 use Rattle.session_core.specs.declared.opening.Incoming.{Incoming}
-use Rattle.session_core.specs.SessionShown.{listed, listed_by, reference, AreFiles, TokensRise, has_token, is_named, has_none, shown, HasOneSide, KeepsSession}
+use Rattle.session_core.specs.SessionShown.{listed, listed_by, reference, AreFiles, TokensRise, has_token, is_named, has_none, shown, AreMarked, HasOneSide, KeepsSession}
 
 -- a slot without entries that begins free is free
 pub free_keeps : KeepsSession Free [] None None []
 unfolding run_from shown
-free_keeps = record { replayed = refl; rising = refl; within = All-nil (λ f. f.1.0 < FILES); side = refl }
+free_keeps = record { replayed = refl; rising = refl; within = All-nil (λ f. f.1.0 < FILES); side = refl; marked = tt }
 
 pub keeps_run : (start : SessionState) → (h : List Entry) → (i : Option Incoming) → (n : Option (List ℕ)) → (files : List (Token × FileNo × ℕ)) → KeepsSession start h i n files → IsTrue (is_some (session_from start h))
 keeps_run start h i n files k = rw k.replayed refl
@@ -107,7 +107,7 @@ sorted_keys (e ∷ es) =
     ap (λ b. b && finmap.is_sorted nat_cmp es) (below_keys e.0 es)
     ∙ ap (λ b. list_all (λ q. is_lt (nat_cmp e.0 q)) (map (λ x. x.0) es) && b) (sorted_keys es)
 
-in_order_by : (files : List (Token × FileNo × ℕ)) → (taken : List Bool) → TokensRise files → T (finmap.is_sorted nat_cmp (listed_by files taken))
+pub in_order_by : (files : List (Token × FileNo × ℕ)) → (taken : List Bool) → TokensRise files → T (finmap.is_sorted nat_cmp (listed_by files taken))
 in_order_by files taken rise =
     subst T (sym (sorted_keys (listed_by files taken) ∙ ap keys_rise (keys_by files taken) ∙ sym (sorted_keys (map listed files)))) (in_order files rise)
 
@@ -166,12 +166,13 @@ pub content_kept : (start : SessionState) → (h : List Entry) → (i : Option I
 content_kept start h i n files k = ap session_content k.replayed ∙ references_shown i n files k.rising k.side
 
 -- a turn, by the step that it takes
-pub turn_keeps : (start : SessionState) → (h : List Entry) → (e : Entry) → (i i2 : Option Incoming) → (n n2 : Option (List ℕ)) → (files files2 : List (Token × FileNo × ℕ)) → KeepsSession start h i n files → session_step (shown i n files) e.event e.reply ≡ Some (shown i2 n2 files2) → TokensRise files2 → AreFiles files2 → HasOneSide i2 n2 files2 → KeepsSession start (h ++ e ∷ []) i2 n2 files2
-turn_keeps start h e i i2 n n2 files files2 k step rise within side = record {
+pub turn_keeps : (start : SessionState) → (h : List Entry) → (e : Entry) → (i i2 : Option Incoming) → (n n2 : Option (List ℕ)) → (files files2 : List (Token × FileNo × ℕ)) → KeepsSession start h i n files → session_step (shown i n files) e.event e.reply ≡ Some (shown i2 n2 files2) → TokensRise files2 → AreFiles files2 → HasOneSide i2 n2 files2 → AreMarked i2 files2 → KeepsSession start (h ++ e ∷ []) i2 n2 files2
+turn_keeps start h e i i2 n n2 files files2 k step rise within side marked = record {
   replayed = run_push session_step (Some start) h e ∙ ap (λ s. then_entry session_step s e) k.replayed ∙ step;
   rising = rise;
   within = within;
   side = side;
+  marked = marked;
 }
 
 -- a fact of the state that the history leads to, at the parts
@@ -179,7 +180,7 @@ pub at_shown : (start : SessionState) → (h : List Entry) → (i : Option Incom
 at_shown start h i n files P k is = subst (λ s. MatchOption s ⊥ P) k.replayed is
 
 pub stay_keeps : (start : SessionState) → (h : List Entry) → (e : Entry) → (i : Option Incoming) → (n : Option (List ℕ)) → (files : List (Token × FileNo × ℕ)) → KeepsSession start h i n files → MatchOption (session_from start h) ⊥ (λ s. session_step s e.event e.reply ≡ Some s) → KeepsSession start (h ++ e ∷ []) i n files
-stay_keeps start h e i n files k stays = turn_keeps start h e i i n n files files k (at_shown start h i n files (λ s. session_step s e.event e.reply ≡ Some s) k stays) k.rising k.within k.side
+stay_keeps start h e i n files k stays = turn_keeps start h e i i n n files files k (at_shown start h i n files (λ s. session_step s e.event e.reply ≡ Some s) k stays) k.rising k.within k.side k.marked
 
 nothing_listed : finmap.from_sorted {R = nat_cmp} (map listed []) ≡ finmap.empty
 nothing_listed = finmap.same_entries_map _ _ (finmap.entries-from_sorted nat_cmp [] tt ∙ sym entries_none)
@@ -205,7 +206,7 @@ pub begin_keeps : (start : SessionState) → (h : List Entry) → (e : Entry) �
 begin_keeps start h e i n files name k is event reply =
     let free : shown i n files ≡ Free = at_shown start h i n files IsFree k is in
     subst (λ j. KeepsSession start (h ++ e ∷ []) j (Some name) files) (sym (none_incoming i n files free))
-    (turn_keeps start h e i None n (Some name) files files k (rw (event, reply) (begin_step i n files name free k.side)) k.rising k.within tt)
+    (turn_keeps start h e i None n (Some name) files files k (rw (event, reply) (begin_step i n files name free k.side)) k.rising k.within tt tt)
 
 pub begin_run : (start : SessionState) → (h : List Entry) → (e : Entry) → (i : Option Incoming) → (n : Option (List ℕ)) → (files : List (Token × FileNo × ℕ)) → (name : List ℕ) → KeepsSession start h i n files → MatchOption (session_from start h) ⊥ IsFree → e.event ≡ SessionBegin name → e.reply ≡ Ok → IsTrue (is_some (session_from start (h ++ e ∷ [])))
 begin_run start h e i n files name k is event reply = keeps_run _ _ _ _ _ (begin_keeps start h e i n files name k is event reply)
@@ -228,7 +229,7 @@ pub end_keeps : (start : SessionState) → (h : List Entry) → (e : Entry) → 
 end_keeps start h e i n files name k is event reply =
     let out : IsTrue (is_out (shown i n files) name) = at_shown start h i n files (λ s. IsTrue (is_out s name)) k is in
     subst (λ j. KeepsSession start (h ++ e ∷ []) j None []) (sym (out_incoming i n files name out))
-    (turn_keeps start h e i None n None files [] k (rw (event, reply) (close_ok (shown i n files) name out ∙ ap Some (sym (free_none [])))) refl (All-nil (λ f. f.1.0 < FILES)) refl)
+    (turn_keeps start h e i None n None files [] k (rw (event, reply) (close_ok (shown i n files) name out ∙ ap Some (sym (free_none [])))) refl (All-nil (λ f. f.1.0 < FILES)) refl tt)
 
 pub end_run : (start : SessionState) → (h : List Entry) → (e : Entry) → (i : Option Incoming) → (n : Option (List ℕ)) → (files : List (Token × FileNo × ℕ)) → (name : List ℕ) → KeepsSession start h i n files → MatchOption (session_from start h) ⊥ (λ s. IsTrue (is_out s name)) → e.event ≡ SessionClose name → e.reply ≡ Ok → IsTrue (is_some (session_from start (h ++ e ∷ [])))
 end_run start h e i n files name k is event reply = keeps_run _ _ _ _ _ (end_keeps start h e i n files name k is event reply)

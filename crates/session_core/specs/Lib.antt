@@ -1,3 +1,4 @@
 pub mod SessionShown
 pub mod SessionValues
 pub mod Sessions
+pub mod Taking

@@ -60,3 +60,10 @@ add_answer None None = Ok
 abbrev pub close_answer : Bool → Reply
 close_answer true = Ok
 close_answer false = NoSession
+
+-- what ending an incoming session is answered: that it is no opened one of the name, else the caller's refusal, else
+-- that it is ended
+abbrev pub finish_answer : Bool → Option Reply → Reply
+finish_answer false lost = NoSession
+finish_answer true (Some loss) = loss
+finish_answer true None = Ok

@@ -2,6 +2,7 @@
 #![tactic(auto)]
 
 mod carried;
+mod incoming;
 mod opening;
 mod session;
 

@@ -245,7 +245,7 @@ impl SessionObject {
 
     /// A turn that leaves the slot as it is.
     #[tactic(auto, using(crate::proofs::Sessions::stay_keeps, crate::proofs::Sessions::keeps_run))]
-    fn stay(&mut self, slip: Slip, event: Event, reply: Reply) -> Turned<Reply>
+    pub(crate) fn stay(&mut self, slip: Slip, event: Event, reply: Reply) -> Turned<Reply>
         requires stays { SessionIs self.old (λ s. session_step s event reply ≡ Some s) }
         requires event { EventIsPlain event }
         requires reply { ReplyIsPlain reply }

@@ -107,6 +107,109 @@ const LABEL_CLOSED: &[u8] = b"0 1 1 1 reg new_file = Ok f0\n\
 0 26 1 7 s0 begin s = Ok\n\
 0 27 1 7 self done = Ok\n";
 
+// A file that outlives its kernel.
+const KEXEC: &[u8] = b"machine 64\n\
+scratch 1 8\n\
+round\n\
+agent a\n\
+memfd m 0\n\
+write m 0 68656c6c6f\n\
+create s\n\
+preserve s 7 m\n\
+kexec 1 4\n\
+round\n\
+agent a\n\
+open s\n\
+retrieve s 7 r\n\
+read r 0 5\n\
+finish s\n";
+
+const KERNELS: &[u8] = b"0 1 1 1 reg new_file = Ok f0\n\
+0 2 1 1 f0 init memfd 0 0 [] = Ok\n\
+0 3 1 1 self done = Ok\n\
+0 4 1 2 pool take 0 1 = Got [9]\n\
+0 5 1 2 f0 write 0 68656c6c6f [9] = Ok\n\
+0 6 1 2 self done = Ok\n\
+0 7 1 3 reg create s = Ok s0\n\
+0 8 1 3 s0 begin s = Ok\n\
+0 9 1 3 self done = Ok\n\
+0 10 1 4 reg find_out s = Ok s0\n\
+0 11 1 4 f0 pin [] = Ok [9]\n\
+0 12 1 4 pool mark 0 [9] = Ok\n\
+0 13 1 4 s0 add s 7 f0 0 = Ok\n\
+0 14 1 4 self done = Ok\n\
+0 15 0 1 pool take 0 6 = Got [10,11,12,13,14,15]\n\
+0 16 0 1 self done = Ok\n\
+1 1 1 5 reg open s = Ok s16\n\
+1 2 1 5 s16 open s = Ok\n\
+1 3 1 5 self done = Ok\n\
+1 4 1 6 reg find_in s = Ok s16\n\
+1 5 1 6 f0 open_held = Ok\n\
+1 6 1 6 s16 take s 7 = Ok f0\n\
+1 7 1 6 self done = Ok\n\
+1 8 1 7 f0 read 0 5 = Ok 68656c6c6f\n\
+1 9 1 7 self done = Ok 68656c6c6f\n\
+1 10 1 8 reg find_in s = Ok s16\n\
+1 11 1 8 f0 finish = Kept\n\
+1 12 1 8 s16 finish s = Ok\n\
+1 13 1 8 reg drop_in s = Ok\n\
+1 14 1 8 self done = Ok\n";
+
+// A file that is never retrieved, a program that is too large, and a kernel that carries nothing.
+const NOT_RETRIEVED: &[u8] = b"machine 64\n\
+scratch 1 8\n\
+round\n\
+agent a\n\
+memfd m 0\n\
+write m 0 68656c6c6f\n\
+create s\n\
+preserve s 7 m\n\
+write m 0 4a\n\
+kexec 1 4\n\
+round\n\
+agent a\n\
+open s\n\
+finish s\n\
+kexec 2 9\n\
+kexec 2 4\n\
+round\n\
+agent a\n\
+open s\n";
+
+const FINISHED: &[u8] = b"0 1 1 1 reg new_file = Ok f0\n\
+0 2 1 1 f0 init memfd 0 0 [] = Ok\n\
+0 3 1 1 self done = Ok\n\
+0 4 1 2 pool take 0 1 = Got [9]\n\
+0 5 1 2 f0 write 0 68656c6c6f [9] = Ok\n\
+0 6 1 2 self done = Ok\n\
+0 7 1 3 reg create s = Ok s0\n\
+0 8 1 3 s0 begin s = Ok\n\
+0 9 1 3 self done = Ok\n\
+0 10 1 4 reg find_out s = Ok s0\n\
+0 11 1 4 f0 pin [] = Ok [9]\n\
+0 12 1 4 pool mark 0 [9] = Ok\n\
+0 13 1 4 s0 add s 7 f0 0 = Ok\n\
+0 14 1 4 self done = Ok\n\
+0 15 1 5 f0 write 0 4a [] = Ok\n\
+0 16 1 5 self done = Ok\n\
+0 17 0 1 pool take 0 6 = Got [10,11,12,13,14,15]\n\
+0 18 0 1 self done = Ok\n\
+1 1 1 6 reg open s = Ok s16\n\
+1 2 1 6 s16 open s = Ok\n\
+1 3 1 6 self done = Ok\n\
+1 4 1 7 reg find_in s = Ok s16\n\
+1 5 1 7 f0 finish = Gone [9]\n\
+1 6 1 7 pool give 0 [9] = Ok\n\
+1 7 1 7 reg free_file f0 = Ok\n\
+1 8 1 7 s16 finish s = Ok\n\
+1 9 1 7 reg drop_in s = Ok\n\
+1 10 1 7 self done = Ok\n\
+1 11 0 2 self done = ScratchSmall 9 8\n\
+1 12 0 3 pool take 0 4 = Got [9,10,11,12]\n\
+1 13 0 3 self done = Ok\n\
+2 1 1 8 reg open s = NoSession\n\
+2 2 1 8 self done = NoSession\n";
+
 // Whether a script, run in memory, has exactly this output. Where it has, the definitions say of this text that it is the
 // text of a legal history of the script.
 fn has_history(alloc: Global, script: &[u8], history: &[u8]) -> Result<bool, AllocError>
@@ -141,5 +244,17 @@ fn a_token_twice_is_legal(rt: HostRuntime) -> Result<(), Fail> {
 #[test]
 fn a_closed_label_is_legal(rt: HostRuntime) -> Result<(), Fail> {
     assert!(rt; has_history(rt.alloc(), CLOSED_LABEL, LABEL_CLOSED)?);
+    Ok(())
+}
+
+#[test]
+fn a_file_that_outlives_its_kernel_is_legal(rt: HostRuntime) -> Result<(), Fail> {
+    assert!(rt; has_history(rt.alloc(), KEXEC, KERNELS)?);
+    Ok(())
+}
+
+#[test]
+fn a_file_that_nobody_retrieves_is_legal(rt: HostRuntime) -> Result<(), Fail> {
+    assert!(rt; has_history(rt.alloc(), NOT_RETRIEVED, FINISHED)?);
     Ok(())
 }

@@ -103,18 +103,27 @@ abbrev pub is_alone : Block → Bool
 is_alone (block.Round works) = nat_le (length works) 1
 is_alone (block.Kexec blob) = true
 
--- a script has no more commands than it may have, and one section at most in each round
-abbrev pub is_small_script : Script → Bool
-is_small_script script = nat_le (total_commands (sections_of script.blocks)) COMMANDS && list_all is_alone script.blocks
+-- how many kexecs stand in some blocks; each of them ends a kernel
+abbrev pub kexecs_in : List Block → ℕ
+kexecs_in [] = 0
+kexecs_in (block.Round works ∷ blocks) = kexecs_in blocks
+kexecs_in (block.Kexec blob ∷ blocks) = 1 + kexecs_in blocks
 
--- A script so far has one kernel, and its agents work one after another: no failures are planned, and each block
--- is a round of at most one section, of an agent whose number is from 1 to 15.
+-- a script has no more commands than it may have, one section at most in each round, and no more kexecs than it may
+-- have
+abbrev pub is_small_script : Script → Bool
+is_small_script script =
+    nat_le (total_commands (sections_of script.blocks)) COMMANDS
+    && (list_all is_alone script.blocks && nat_le (kexecs_in script.blocks) KEXECS)
+
+-- A script's agents so far work one after another: no failures are planned, and each block is a kexec, or a round of
+-- at most one section, of an agent whose number is from 1 to 15.
 abbrev pub is_agent_section : AgentWork → Bool
 is_agent_section work = nat_le 1 work.agent.0 && nat_le work.agent.0 AGENTS
 
 abbrev pub is_single_block : Block → Bool
 is_single_block (block.Round works) = nat_le (length works) 1 && list_all is_agent_section works
-is_single_block (block.Kexec blob) = false
+is_single_block (block.Kexec blob) = true
 
 abbrev pub is_single_script : Script → Bool
 is_single_script script = length script.fails == 0 && list_all is_single_block script.blocks

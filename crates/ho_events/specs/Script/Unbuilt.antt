@@ -1,5 +1,5 @@
--- What isn't built yet: so far a script has one kernel, rounds of at most one section, and memfds of one page. The
--- next stages shrink these tests; at the end all of them are false everywhere.
+-- What isn't built yet: so far a script has rounds of at most one section, and memfds of one page. The next stages
+-- shrink these tests; at the end all of them are false everywhere.
 use Rattle.std.specs.Prelude.{◌+◌, Bool, true, false, nat_lt, length, is_some}
 use Rattle.ho_base.specs.declared.limits.TheConstants.{PAGE_BYTES}
 use Rattle.ho_events.specs.Script.SoFar.{Reading}
@@ -10,12 +10,13 @@ use Rattle.ho_events.specs.declared.line.Line.TheVariants.{Agent, Command as Act
 use Rattle.ho_events.specs.declared.line.Verb.{Verb}
 use Rattle.ho_events.specs.declared.line.Verb.TheVariants as verb
 
--- the first words whose lines aren't built: all but these eleven
+-- the first words whose lines aren't built: all but these fifteen
 abbrev pub is_unbuilt_verb : Verb → Bool
 is_unbuilt_verb verb.Machine = false
 is_unbuilt_verb verb.Scratch = false
 is_unbuilt_verb verb.Round = false
 is_unbuilt_verb verb.Agent = false
+is_unbuilt_verb verb.Kexec = false
 is_unbuilt_verb verb.Memfd = false
 is_unbuilt_verb verb.Write = false
 is_unbuilt_verb verb.Read = false
@@ -23,6 +24,9 @@ is_unbuilt_verb verb.CloseFd = false
 is_unbuilt_verb verb.Create = false
 is_unbuilt_verb verb.Preserve = false
 is_unbuilt_verb verb.Close = false
+is_unbuilt_verb verb.Open = false
+is_unbuilt_verb verb.Retrieve = false
+is_unbuilt_verb verb.Finish = false
 is_unbuilt_verb v = true
 
 -- the commands that aren't built: a memfd of another order than 0, and a write whose end passes 4096

@@ -1,10 +1,10 @@
 //! One command of an agent.
 
 ghost use Rattle.std.specs.Prelude.{◌≡◌, IsTrue};
-ghost use Rattle.ho_events.specs.Script.Rules.{is_built};
 ghost use Rattle.machine_core.specs.Agents.{Agent, no_hands};
 ghost use Rattle.machine_core.specs.Turns.{IsReady};
 ghost use Rattle.luo_calls.specs.Came.{CameTo};
+ghost use Rattle.luo_calls.specs.Done.{is_done_here};
 
 use crate::commands::close::close;
 use crate::commands::close_fd::close_fd;
@@ -37,7 +37,7 @@ pub fn do_command<R: Reach>(
 ) -> Outcome
     requires ready { IsReady at (R.shown reach.old) }
     requires free { (R.shown reach.old).hands ≡ no_hands }
-    requires built { IsTrue (is_built command.now) }
+    requires here { IsTrue (is_done_here command.now) }
     ensures came { CameTo labels.old.bound labels.new.bound command.now at (R.shown reach.old) (R.shown reach.new) result }
 {
     let mut at = at;

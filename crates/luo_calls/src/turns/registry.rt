@@ -21,7 +21,7 @@ use registry_core::Registry;
 use std::alloc::Global;
 
 /// The registry, still in hand, that can't make the event that is due.
-fn broken_registry(registry: Registry) -> Stuck
+pub fn broken_registry(registry: Registry) -> Stuck
     ensures halt { result.halt ≡ Halt.Broken (record { 0 = registry_no }) }
     ensures held { result.held ≡ Some (record { 0 = registry_no }, Object.Registry registry) }
 {

@@ -109,13 +109,17 @@ pub fn is_unbuilt_verb(verb: Verb) -> bool
         | Verb::Scratch
         | Verb::Round
         | Verb::Agent
+        | Verb::Kexec
         | Verb::Memfd
         | Verb::Write
         | Verb::Read
         | Verb::CloseFd
         | Verb::Create
         | Verb::Preserve
-        | Verb::Close => false,
+        | Verb::Close
+        | Verb::Open
+        | Verb::Retrieve
+        | Verb::Finish => false,
         _ => true,
     }
 }

@@ -1,12 +1,14 @@
 use Rattle.std.proofs.Common.{◌≡◌, ◌≤◌}
 use Rattle.ho_world.specs.World.{cold}
+use Rattle.kexec_laws.specs.Kexecs.{kexec_number}
 use Rattle.handover_cli.proofs.Written.{Stands}
 use Rattle.handover_cli.proofs.run.run_blocks.Given as goal
 
--- the blocks so far are done and written, and the kernel is as their entries say
+-- the blocks so far are done and written, the kernel is as their entries say, and the next kexec has the next number
 abbrev pub invariant-loop-block : goal.invariant-loop-block
 invariant-loop-block g l = record {
   stands : Stands (cold l.fn.kernel.shape) l.blocks l.block-index l.kernel (g.H.Host.out l.fn.host) (g.H.Host.out l.host);
+  number : l.number ≡ kexec_number l.blocks l.block-index;
   counts : g.H.Host.write_faults l.fn.host ≤ g.H.Host.write_faults l.host;
   asked : g.H.Host.asked l.host ≡ g.H.Host.asked l.fn.host;
   made : g.H.Host.made l.host ≡ g.H.Host.made l.fn.host;

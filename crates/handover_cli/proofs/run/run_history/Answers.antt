@@ -12,7 +12,7 @@ run_blocks-requires-clause-blocks g c =
 pub run_blocks-requires-clause-cold : goal.run_blocks-requires-clause-cold
 run_blocks-requires-clause-cold g c =
     let of = c.in-Ok.ensures in
-    cold_after c.in-Some.shape _ c.in-Ok.kernel of.number of.shape of.begun of.histories of.labels of.base
+    cold_after c.in-Some.shape _ c.in-Ok.kernel of.number of.shape of.begun of.histories of.labels of.base of.updates
 
 pub returns-clause-memory : goal.returns-clause-memory
 returns-clause-memory g c = λ _. record { shape = c.in-Some.shape; shape_is = c.in-Some.is; holds = none_written _ _ _ }

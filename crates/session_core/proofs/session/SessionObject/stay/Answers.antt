@@ -1,4 +1,4 @@
-use Rattle.std.proofs.Common.{◌≡◌, Some, ap, sym, subst}
+use Rattle.std.proofs.Common.{◌≡◌, Some, sym, subst}
 use Rattle.ho_events.specs.Session.{session_step}
 use Rattle.ho_events.specs.declared.entry.Entry.{Entry}
 use Rattle.session_core.proofs.Sessions.{stay_keeps}

@@ -1,0 +1,2 @@
+pub mod CarrySteps
+pub mod MarkSteps

@@ -1,0 +1,76 @@
+-- The turns of a kexec.
+use Rattle.std.proofs.Common.{◌≡◌, ℕ, ◌+◌, ◌<◌, ◌≤◌, ◌^◌, max, List, [], ◌∷◌, ◌++◌, map, refl, sym, ap, subst, ◌∙◌, arith}
+use Rattle.std.specs.Prelude.{Option, None, Some, MatchOption}
+use Rattle.std.specs.declared.snapshot.Snapshot.{Snapshot}
+use Rattle.ho_base.specs.Objects.{pool_no}
+use Rattle.ho_base.specs.declared.items.Items.{Items}
+use Rattle.ho_base.specs.declared.numbers.Pfn.{Pfn}
+use Rattle.ho_events.specs.declared.entry.Entry.{Entry}
+use Rattle.ho_events.specs.declared.slip.At.{At}
+use Rattle.ho_events.specs.declared.event.Event.TheVariants.{PoolTake}
+use Rattle.ho_events.specs.declared.reply.Reply.{Reply}
+use Rattle.ho_events.specs.declared.reply.Reply.TheVariants.{Ok, Got, NoFrames, NoFramesOf}
+use Rattle.ho_world.specs.Acts.{single}
+use Rattle.ho_world.specs.Logs.{Known, deed_at, end_with}
+use Rattle.phys_frames.specs.Homes.{HomeId}
+use Rattle.phys_frames.specs.Memory.{FolioValue, zeroed}
+use Rattle.machine_core.specs.Agents.{Agent, with_at, took, HasEnded, GaveBack, Entered}
+use Rattle.machine_core.specs.Objects.{known_of}
+use Rattle.machine_core.specs.declared.object.Object.{Object}
+use Rattle.machine_core.specs.Turns.{IsReady, Goes}
+use Rattle.luo_calls.specs.Takes.{TookRuns}
+use Rattle.luo_calls.proofs.Chains.{then_goes, ready_after}
+use Rattle.luo_calls.proofs.Steps.{at_same, put_back, goes_none}
+use Rattle.freeze_path.specs.Ready.{TookFrames, folios_of, reply_for, took_by}
+use Rattle.freeze_path.specs.declared.taking.Took.{Took}
+use Rattle.freeze_path.specs.declared.taking.Took.TheVariants as took_as
+
+-- the log got more room
+pub only_room : (at : At) (a a0 : Agent) → a0 ≡ record a { room = a0.room } → Goes [] at at a a0
+only_room at a a0 room =
+    goes_none at a a0 (ap (λ (x : Agent). x.log) room) (ap (λ (x : Agent). x.number) room) (ap (λ (x : Agent). x.anchor) room) (ap (λ (x : Agent). x.starts) room)
+    (ap (λ (x : Agent). x.earlier) room) (ap (λ (x : Agent). x.hands) room) (ap (λ (x : Agent). x.told) room)
+
+-- an object was taken, and given back as it was
+module _ (at : At) (n : ℕ) (a a0 a1 b : Agent) (o : Object) (room : a0 ≡ record a { room = a0.room }) (took_it : a1 ≡ took n (known_of o) a0) (free : a.hands n ≡ None) where
+  in_it : a1.hands n ≡ Some (known_of o)
+  in_it = ap (λ (x : Agent). x.hands n) took_it ∙ at_same n (Some (known_of o)) a0.hands
+
+  pub given_back : HasEnded a1 n None (a1.hands n) b → Goes [] at at a b
+  given_back h = goes_none at a b
+      (ap (λ (x : Agent). x.log) g.shows.same ∙ ap (λ (x : Agent). x.log) took_it ∙ ap (λ (x : Agent). x.log) room)
+      (ap (λ (x : Agent). x.number) g.shows.same ∙ ap (λ (x : Agent). x.number) took_it ∙ ap (λ (x : Agent). x.number) room)
+      (ap (λ (x : Agent). x.anchor) g.shows.same ∙ ap (λ (x : Agent). x.anchor) took_it ∙ ap (λ (x : Agent). x.anchor) room)
+      (ap (λ (x : Agent). x.starts) g.shows.same ∙ ap (λ (x : Agent). x.starts) took_it ∙ ap (λ (x : Agent). x.starts) room)
+      (ap (λ (x : Agent). x.earlier) g.shows.same ∙ ap (λ (x : Agent). x.earlier) took_it ∙ ap (λ (x : Agent). x.earlier) room)
+      (ap (λ (x : Agent). x.hands) g.shows.same ∙ ap (λ (x : Agent). with_at n None x.hands) took_it
+      ∙ put_back n (known_of o) a0.hands (ap (λ (x : Agent). x.hands n) room ∙ free) ∙ ap (λ (x : Agent). x.hands) room)
+      (ap (λ (x : Agent). x.told) g.shows.same ∙ ap (λ (x : Agent). x.told) took_it ∙ ap (λ (x : Agent). x.told) room)
+    where
+      g : GaveBack a1 n (known_of o) b
+      g = subst (λ x. HasEnded a1 n None x b) in_it h
+
+-- after an entry there is room for another one, where there was room for two
+pub room_left : (a b : Agent) (n : ℕ) (e : Entry) (x : Option Known) → HasEnded a n (Some e) x b → 2 ≤ a.room → 1 ≤ b.room
+room_left a b n e None h two = absurd h
+room_left a b n e (Some k) h two = omega (arith, h.shows.room, two)
+
+-- the take and the end of the command
+pub both : (count : ℕ) (at at1 at2 : At) (a a1 a2 : Agent) (got : Option (Snapshot (Items Pfn))) → TookRuns single count at at1 a a1 got → Goes (end_with (reply_for count got) ∷ []) at1 at2 a1 a2 → TookFrames count at a a2 (took_by got)
+both count at at1 at2 a a1 a2 None h k = (at2, then_goes (deed_at pool_no [] (PoolTake single count) NoFrames ∷ []) (end_with (NoFramesOf count) ∷ []) at at1 at2 a a1 a2 (h [] tt) k)
+both count at at1 at2 a a1 a2 (Some runs) h k = (at2, then_goes (deed_at pool_no [] (PoolTake single count) (Got runs.value) ∷ []) (end_with Ok ∷ []) at at1 at2 a a1 a2 (h [] tt) k)
+
+pub same_folios : (home : HomeId) (got : Option (Snapshot (Items Pfn))) (out : List FolioValue) → MatchOption got (out ≡ []) (λ runs. out ≡ map (zeroed home) runs.value) → out ≡ folios_of home (took_by got)
+same_folios home None out h = h
+same_folios home (Some runs) out h = h
+
+pub ready_taken : (count : ℕ) (at at1 : At) (a a1 : Agent) (got : Option (Snapshot (Items Pfn))) → IsReady at a → TookRuns single count at at1 a a1 got → IsReady at1 a1
+ready_taken count at at1 a a1 None r h = ready_after (deed_at pool_no [] (PoolTake single count) NoFrames ∷ []) at at1 a a1 r (h [] tt)
+ready_taken count at at1 a a1 (Some runs) r h = ready_after (deed_at pool_no [] (PoolTake single count) (Got runs.value) ∷ []) at at1 a a1 r (h [] tt)
+
+pub same_agent : (at : At) (a : Agent) → Goes [] at at a a
+same_agent at a = goes_none at a a refl refl refl refl refl refl refl
+
+-- with other room first
+pub after_room : (reply : Reply) (at at2 : At) (a a0 a2 : Agent) → a0 ≡ record a { room = a0.room } → Goes (end_with reply ∷ []) at at2 a0 a2 → Goes (end_with reply ∷ []) at at2 a a2
+after_room reply at at2 a a0 a2 room h = then_goes [] (end_with reply ∷ []) at at at2 a a0 a2 (only_room at a a0 room) h

@@ -1,0 +1,9 @@
+//! A kernel is frozen into frames, and these are handed on.
+#![tactic(auto)]
+
+mod freezing;
+mod pages;
+mod ready;
+mod taking;
+
+pub use freezing::{Freezing, Frozen, freeze, kexec};

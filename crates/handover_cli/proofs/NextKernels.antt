@@ -1,0 +1,84 @@
+-- A kexec as it was frozen and booted: where it begins, what was done, and which kernel follows.
+use Rattle.std.proofs.Common.{◌≡◌, ℕ, ◌+◌, ◌<◌, ◌≤◌, Bool, true, false, ◌&&◌, ◌==◌, nat_le, List, [], ◌∷◌, length, refl, sym, ap, subst, ◌∙◌, arith, IsTrue, take, zero, suc}
+use Rattle.std.specs.Prelude.{Option, None, Some, MatchOption, is_some, slice_get}
+use Rattle.std.specs.List.{All, list_all}
+use Rattle.std.proofs.lemmas.Bool.Decides.{nat_tests}
+use Rattle.ho_base.specs.declared.limits.TheConstants.{KEXECS}
+use Rattle.ho_base.specs.declared.numbers.Blob.{Blob}
+use Rattle.ho_events.specs.Script.Rules.{kexecs_in}
+use Rattle.ho_events.specs.declared.entry.Entry.{Entry}
+use Rattle.ho_events.specs.declared.script.Block.{Block}
+use Rattle.ho_events.specs.declared.script.Block.TheVariants.{Round, Kexec}
+use Rattle.ho_events.specs.declared.slip.At.{At}
+use Rattle.ho_base.specs.declared.numbers.Kind.TheVariants.{Memfd}
+use Rattle.ho_world.specs.Frozen.{CarriedFile, Frozen, carried_files}
+use Rattle.ho_world.specs.Sequences.Kexecs.{KexecOutcome}
+use Rattle.ho_world.proofs.Fronts.{and_both, eq_test}
+use Rattle.next_laws.specs.Begins.{is_memfd, is_one_page, are_one_page}
+use Rattle.ho_world.specs.World.{World}
+use Rattle.kexec_laws.specs.Kexecs.{ends, kexec_number}
+use Rattle.kexec_laws.proofs.KexecNumbers.{kexecs_counted}
+use Rattle.machine_core.specs.Kernels.{KernelValue}
+use Rattle.freeze_path.specs.Freezes.{IsStill, DidKexec}
+use Rattle.handover_cli.specs.Works.{CanRun, DidBlock, kexec_at}
+use Rattle.handover_cli.proofs.Written.{Stands, kexec_is_few}
+
+-- where a kexec begins
+at_is : (kernel : KernelValue) (number n last : ℕ) → n ≡ kernel.number → last ≡ kernel.base → record { kernel = n; agent = record { 0 = 0 }; command = number; last = last } ≡ kexec_at kernel number
+at_is kernel number n last same base =
+    let with_kernel : ℕ → At = λ x. record { kernel = x; agent = record { 0 = 0 }; command = number; last = last } in
+    let with_last : ℕ → At = λ x. record { kernel = kernel.number; agent = record { 0 = 0 }; command = number; last = x } in
+    ap with_kernel same ∙ ap with_last base
+
+-- a kexec that was done from there on is a block that was done
+pub kexec_block : (kernel old : KernelValue) (number n last : ℕ) (blob : Blob) (outcome : KexecOutcome) (entries : List Entry) (ended : Bool) → n ≡ kernel.number → last ≡ kernel.base → IsStill kernel old entries
+    → DidKexec kernel (record { kernel = n; agent = record { 0 = 0 }; command = number; last = last }) blob outcome entries → ends outcome ≡ ended → DidBlock number (Kexec blob) kernel old entries ended
+kexec_block kernel old number n last blob outcome entries ended same base still did ending = record {
+  still = still;
+  outcome = outcome;
+  did = subst (λ (at : At). DidKexec kernel at blob outcome entries) (at_is kernel number n last same base) did;
+  ending = ending;
+}
+
+-- a kernel that was frozen in a block has a number below the greatest one
+pub frozen_is_few : {T : Type 0} (frozen : Option T) (start : World) (blocks : List Block) (b : ℕ) (block : Block) (kernel old : KernelValue) (out mid : Option (List ℕ)) (new : List Entry)
+    → CanRun blocks → slice_get blocks b ≡ Some block → DidBlock (kexec_number blocks b) block kernel old new (is_some frozen) → Stands start blocks b kernel out mid
+    → MatchOption frozen (Unit {0}) (λ f. old.number < KEXECS)
+frozen_is_few None start blocks b block kernel old out mid new runs is did s = tt
+frozen_is_few (Some f) start blocks b (Round works) kernel old out mid new runs is did s = absurd (not_both did.1)
+  where
+    not_both : true ≡ false → ⊥
+    not_both e = cc
+frozen_is_few (Some f) start blocks b (Kexec blob) kernel old out mid new runs is did s =
+    let few = kexec_is_few start blocks b blob kernel out mid runs is s in
+    let same : old.number ≡ kernel.number = did.still.number in
+    omega (arith, few.1, same)
+
+-- what is carried has one-page memfds alone, as a test
+all_one_page : (cs : List CarriedFile) → All (λ c. (c.kind ≡ Memfd) × (c.order ≡ 0) × (length c.runs ≤ 1)) cs → IsTrue (list_all is_one_page cs)
+all_one_page [] h = refl
+all_one_page (c ∷ cs) h =
+    let first = h zero c (omega arith) in
+    and_both (is_one_page c) _
+    (and_both (is_memfd c.kind && c.order == 0) _
+    (and_both (is_memfd c.kind) _ (subst (λ k. IsTrue (is_memfd k)) (sym first.0) refl) (eq_test c.order 0 first.1))
+    (at_most (length c.runs) first.2))
+    (all_one_page cs (λ k d less. h (suc k) d (omega (arith, less))))
+  where
+    at_most : (n : ℕ) → n ≤ 1 → IsTrue (nat_le n 1)
+    at_most n h = grind (arith, nat_tests)
+
+pub one_page_test : (f : Frozen) → All (λ c. (c.kind ≡ Memfd) × (c.order ≡ 0) × (length c.runs ≤ 1)) (carried_files f) → IsTrue (are_one_page f)
+one_page_test f h = all_one_page (carried_files f) h
+
+-- what was done with a number that is the next one
+pub at_number : (m n : ℕ) (block : Block) (kernel old : KernelValue) (entries : List Entry) (ended : Bool) → m ≡ n → DidBlock m block kernel old entries ended → DidBlock n block kernel old entries ended
+at_number m n block kernel old entries ended same did = subst (λ x. DidBlock x block kernel old entries ended) same did
+
+-- the numbers of kexecs are small
+pub numbers_fit : (blocks : List Block) (b : ℕ) (block : Block) → CanRun blocks → slice_get blocks b ≡ Some block → kexec_number blocks b + kexecs_in (block ∷ []) ≤ 1 + KEXECS
+numbers_fit blocks b block runs is =
+    let counted = kexecs_counted blocks b block is in
+    let next : kexecs_in (take (b + 1) blocks) ≡ kexecs_in (take b blocks) + kexecs_in (block ∷ []) = counted.0 in
+    let most : kexecs_in (take (b + 1) blocks) ≤ kexecs_in blocks = counted.1 in
+    omega (arith, next, most, runs.few)

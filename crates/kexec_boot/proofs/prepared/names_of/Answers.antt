@@ -1,0 +1,8 @@
+use Rattle.std.proofs.Common.{[], ◌∙◌, arith}
+use Rattle.kexec_boot.proofs.Adding.{ended, one_each}
+use Rattle.kexec_boot.proofs.PageSteps.{one_name, name_of}
+use Rattle.kexec_boot.proofs.prepared.names_of.Goals as goal
+
+pub returns : goal.returns
+returns c =
+    ended one_name [] c.args.sessions.now c.loop-session.session-index c.loop-session.names.items c.loop-session.invariant (omega arith) ∙ one_each name_of c.args.sessions.now

@@ -1,0 +1,7 @@
+pub mod Inserted
+pub mod NextParts
+pub mod LastFronts
+pub mod Names
+pub mod KeptRules
+pub mod FreeRuns
+pub mod Following

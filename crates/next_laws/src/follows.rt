@@ -1,0 +1,11 @@
+//! What a carried state gives to the kernel that begins with it.
+
+ghost use Rattle.next_laws.specs.Follows.{CarriedCanBegin};
+
+/// A state that frames carry, with files of one page each, has all that a kernel asks for to begin with it: sessions
+/// with different names, no more than there are incoming slots; no more files than a kernel has, under rising tokens;
+/// no bound record; and different runs, each of which is free in a machine of its shape that is switched on. Nothing is
+/// done.
+pub fn law_of_following()
+    ensures { CarriedCanBegin }
+{}

@@ -1,0 +1,2 @@
+pub mod OffScratch
+pub mod Stays
