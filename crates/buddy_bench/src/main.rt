@@ -1,9 +1,6 @@
 //! Takes single frames and gives them back, many times over, and prints what one round costs.
 #![tactic(auto)]
 
-#[cfg(test)]
-mod tests;
-
 ghost use Rattle.std.specs.Prelude.{◌+◌, ◌<◌, ◌≤◌, All, AllPairs, IsTrue, length};
 ghost use Rattle.buddy_pages.specs.FreeFrames.{AreApart, none_free};
 

@@ -3,8 +3,6 @@
 
 mod look;
 mod samples;
-#[cfg(test)]
-mod tests;
 
 use crate::look::show;
 use crate::samples::sample;

@@ -2,9 +2,6 @@
 //! filling as many bytes.
 #![tactic(auto)]
 
-#[cfg(test)]
-mod tests;
-
 ghost use Rattle.std.specs.Prelude.{◌≡◌, ◌*◌, ◌<◌, ◌≤◌, IfOk, length};
 ghost use Rattle.ho_base.specs.declared.limits.TheConstants.{MAX_FRAMES, MAX_ORDER, PAGE_BYTES};
 ghost use Rattle.phys_frames.specs.Memory.{AllHome};

@@ -9,6 +9,3 @@ mod writer;
 pub use laws::law_of_images;
 pub use reader::{ImageError, read_image};
 pub use writer::write_image;
-
-#[cfg(test)]
-mod tests;

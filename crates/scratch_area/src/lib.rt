@@ -4,8 +4,6 @@
 mod blob;
 mod early;
 mod handoff;
-#[cfg(test)]
-mod tests;
 
 pub use blob::{load_blob, scratch_need};
 pub use early::EarlyAlloc;

@@ -10,8 +10,6 @@ ghost use Rattle.turns_bench.specs.Agents.{IsReady};
 
 mod agent;
 mod tally;
-#[cfg(test)]
-mod tests;
 
 use crate::agent::{Agent, work};
 use crate::tally::Tally;

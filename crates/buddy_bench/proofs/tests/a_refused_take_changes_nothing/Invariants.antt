@@ -1,5 +1,0 @@
-use Rattle.std.proofs.Common.{◌≡◌}
-use Rattle.buddy_bench.proofs.tests.a_refused_take_changes_nothing.Given as goal
-
-abbrev pub invariant-loop-frame : goal.invariant-loop-frame
-invariant-loop-frame g l = l.free.items ≡ l.buddy

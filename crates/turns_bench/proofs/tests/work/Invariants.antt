@@ -1,6 +1,0 @@
-use Rattle.turns_table.specs.Tables.{IsOf}
-use Rattle.turns_table.specs.Passes.{IsIdle}
-use Rattle.turns_bench.proofs.tests.work.Given as goal
-
-abbrev pub invariant-loop-i : goal.invariant-loop-i
-invariant-loop-i g l = IsOf l.turns l.pass × IsIdle l.pass l.agent.0
