@@ -1,6 +1,7 @@
 //! Scripts that are read, and why lines are refused.
 
-use ho_base::numbers::{AgentNo, Blob, Token};
+use ho_base::name::Name;
+use ho_base::numbers::{AgentNo, Blob};
 use ho_events::command::Command;
 use ho_events::script::Block;
 use script_text::{Reason, ScriptError, read};
@@ -168,6 +169,38 @@ fn gives_the_first_reason_of_a_command(rt: HostRuntime) -> Result<(), Fail> {
     Ok(())
 }
 
+/// Whether a name is spelled so.
+fn is_named(name: &Name, spelled: &[u8]) -> bool {
+    name.as_bytes() == spelled
+}
+
+/// Whether a command writes these bytes at the front of the file of this label.
+fn writes(command: &Command, bound: &[u8], written: &[u8]) -> bool {
+    match command {
+        Command::Write(label, offset, bytes) => {
+            *offset == 0 && is_named(label, bound) && bytes.as_slice() == written
+        }
+        _ => false,
+    }
+}
+
+/// How many commands of some blocks write these bytes at the front of the file of this label.
+fn writes_in(blocks: &[Block], bound: &[u8], written: &[u8]) -> u32 {
+    let mut count = 0u32;
+    for block in blocks {
+        if let Block::Round(works) = block {
+            for work in works.as_slice() {
+                for command in work.commands.as_slice() {
+                    if writes(command, bound, written) {
+                        count = count.saturating_add(1);
+                    }
+                }
+            }
+        }
+    }
+    count
+}
+
 #[test]
 fn reads_the_first_path(rt: HostRuntime) -> Result<(), Fail> {
     let text =
@@ -179,26 +212,12 @@ fn reads_the_first_path(rt: HostRuntime) -> Result<(), Fail> {
     let frames = script.shape.as_ref().map(|shape| shape.frames());
     assert_eq!(rt; frames, Some(64));
     assert_eq!(rt; script.agents.len(), 1);
-    assert_eq!(rt; script.blocks.len(), 1);
-    for block in script.blocks.as_slice() {
-        let Block::Round(works) = block else {
-            assert!(rt; false, "the block is no round");
-            return Ok(());
-        };
-        assert_eq!(rt; works.len(), 1);
-        for work in works.as_slice() {
-            assert_eq!(rt; work.agent, AgentNo(1));
-            assert_eq!(rt; work.first, 1);
-            assert_eq!(rt; work.commands.len(), 5);
-            for command in work.commands.as_slice() {
-                if let Command::Write(label, offset, bytes) = command {
-                    assert_eq!(rt; label.as_bytes(), b"m".as_slice());
-                    assert_eq!(rt; *offset, 0);
-                    assert_eq!(rt; bytes.as_slice(), b"hello".as_slice());
-                }
-            }
-        }
-    }
+    let blocks = script.blocks.as_slice();
+    assert_eq!(rt; blocks.len(), 1);
+    let found = sections(rt.alloc(), blocks)?;
+    assert_eq!(rt; found.as_slice(), [(AgentNo(1), 1, 5)].as_slice());
+    let count = writes_in(blocks, b"m".as_slice(), b"hello".as_slice());
+    assert_eq!(rt; count, 1);
     Ok(())
 }
 
@@ -289,7 +308,7 @@ fn opens(command: Option<&Command>, session: &[u8]) -> bool {
 fn retrieves(command: Option<&Command>, session: &[u8], number: u64, bound: &[u8]) -> bool {
     match command {
         Some(Command::Retrieve(name, token, label)) => {
-            name.as_bytes() == session && *token == Token(number) && label.as_bytes() == bound
+            token.0 == number && is_named(name, session) && is_named(label, bound)
         }
         _ => false,
     }

@@ -6,7 +6,7 @@ use ho_base::items::Items;
 use ho_base::name::Name;
 use ho_base::numbers::{BadShape, FileNo, Kind, ObjectNo, Order, Pfn, SlotNo};
 use ho_base::shape::{Area, Shape};
-use std::alloc::Global;
+use std::alloc::{AllocError, Global};
 use std::test::Fail;
 
 #[test]
@@ -65,20 +65,45 @@ fn area(first: u32, count: u32) -> Area {
     }
 }
 
-fn is_bad(alloc: Global, frames: u32, areas: &[Area]) -> Result<bool, Fail> {
+/// Whether these areas of so many frames are no shape.
+fn is_bad(alloc: Global, frames: u32, areas: &[Area]) -> Result<bool, AllocError> {
     let scratch = Vec::from_slice(alloc, areas)?;
     Ok(Shape::checked(frames, scratch).is_err())
 }
 
+/// The same of two areas.
+fn are_bad(alloc: Global, frames: u32, one: Area, other: Area) -> Result<bool, AllocError> {
+    is_bad(alloc, frames, [one, other].as_slice())
+}
+
+/// The shape of 64 frames with these areas; none where it is refused.
+fn shape_of(alloc: Global, areas: &[Area]) -> Result<Option<Shape>, AllocError> {
+    let scratch = Vec::from_slice(alloc, areas)?;
+    Ok(Shape::checked(64, scratch).ok())
+}
+
+/// Whether a frame of a shape is in a scratch area; false where there is no shape.
+fn is_scratch(shape: Option<&Shape>, frame: u32) -> bool {
+    match shape {
+        Some(shape) => shape.is_scratch(Pfn(frame)),
+        None => false,
+    }
+}
+
+/// Whether a shape has exactly these areas; false where there is no shape.
+fn has_areas(shape: Option<&Shape>, areas: &[Area]) -> bool {
+    match shape {
+        Some(shape) => shape.scratch() == areas,
+        None => false,
+    }
+}
+
 #[test]
-fn shapes_keep_their_rules(rt: HostRuntime) -> Result<(), Fail> {
-    let alloc = rt.alloc();
+fn shapes_have_scratch_areas(rt: HostRuntime) -> Result<(), Fail> {
     let areas = [area(1, 8), area(20, 1)];
-    let shape = Shape::checked(64, Vec::from_slice(alloc, areas.as_slice())?).map_err(
-        |_| "refused",
-    )?;
-    assert_eq!(rt; shape.frames(), 64);
-    assert_eq!(rt; shape.scratch(), areas.as_slice());
+    let shape = shape_of(rt.alloc(), areas.as_slice())?;
+    assert_eq!(rt; shape.as_ref().map(|shape| shape.frames()), Some(64));
+    assert!(rt; has_areas(shape.as_ref(), areas.as_slice()));
     for (frame, within) in [
         (0, false),
         (1, true),
@@ -87,28 +112,36 @@ fn shapes_keep_their_rules(rt: HostRuntime) -> Result<(), Fail> {
         (20, true),
         (21, false),
     ] {
-        assert_eq!(rt; shape.is_scratch(Pfn(frame)), within, "at {frame}");
+        assert_eq!(rt; is_scratch(shape.as_ref(), frame), within, "at {frame}");
     }
+    Ok(())
+}
+
+#[test]
+fn shapes_have_one_to_four_areas(rt: HostRuntime) -> Result<(), Fail> {
+    let alloc = rt.alloc();
     assert!(rt; !is_bad(alloc, 64, [area(1, 8)].as_slice())?);
     assert!(rt; !is_bad(alloc, 16_384, [area(1, 4)].as_slice())?);
-    let end = u32::MAX;
     let five = [area(1, 1), area(3, 1), area(5, 1), area(7, 1), area(9, 1)];
     assert!(rt; is_bad(alloc, 64, five.as_slice())?);
     assert!(rt; is_bad(alloc, 64, [].as_slice())?);
-    for (frames, one, other) in [
-        (31, area(1, 8), area(20, 1)),
-        (16_385, area(1, 8), area(20, 1)),
-        (64, area(0, 8), area(20, 1)),
-        (64, area(1, 8), area(8, 2)),
-        (64, area(1, 8), area(60, 5)),
-        (64, area(1, 8), area(20, 0)),
-        (64, area(1, 8), area(end, end)),
-        (16_384, area(1, 3), area(20, 1)),
+    Ok(())
+}
+
+#[test]
+fn shapes_keep_their_rules(rt: HostRuntime) -> Result<(), Fail> {
+    let end = u32::MAX;
+    for (what, frames, one, other) in [
+        ("31 frames", 31, area(1, 8), area(20, 1)),
+        ("16,385 frames", 16_385, area(1, 8), area(20, 1)),
+        ("frame 0", 64, area(0, 8), area(20, 1)),
+        ("areas in one another", 64, area(1, 8), area(8, 2)),
+        ("past the last frame", 64, area(1, 8), area(60, 5)),
+        ("an area of no frames", 64, area(1, 8), area(20, 0)),
+        ("past the last number", 64, area(1, 8), area(end, end)),
+        ("too small an area 0", 16_384, area(1, 3), area(20, 1)),
     ] {
-        assert!(rt;
-            is_bad(alloc, frames, [one, other].as_slice())?,
-            "at {frames}, {other:?}"
-        );
+        assert!(rt; are_bad(rt.alloc(), frames, one, other)?, "{what}");
     }
     Ok(())
 }
