@@ -33,7 +33,7 @@ use Rattle.machine_core.specs.Kernels.{KernelValue, object_at, starts_in, begun_
 use Rattle.handover_cli.specs.Rounds.{WorkedAlone, IsAfter, labels_at, begins_at}
 use Rattle.handover_cli.specs.Works.{CanDo, CanRun, DidBlock, FollowsAs, due_after}
 use Rattle.handover_cli.proofs.KernelWorlds.{no_history, ran}
-use Rattle.handover_cli.proofs.KexecBlocks.{GoesOn, kexec_through, kexec_done, world_before, world_now}
+use Rattle.handover_cli.proofs.KexecBlocks.{GoesOn, kexec_through, kexec_done, kexec_here, kexec_some, kexec_world, world_before, world_now}
 use Rattle.machine_core.specs.Worlds.{IsWorldOf}
 use Rattle.kexec_laws.specs.Kexecs.{kexec_number}
 use Rattle.ho_base.specs.Objects.{handler_no}
@@ -115,7 +115,7 @@ module _ (start : World) (blocks : List Block) (es new : List Entry) (b k : ℕ)
   of_agent : (e : Entry) → IsTrue (is_mine first many e) → IsTrue (e.agent.0 == work.agent.0)
   of_agent e h = and_right (e.kernel == k) _ (and_left (e.kernel == k && e.agent.0 == work.agent.0) _ h)
 
-  all_here : IsTrue (list_all (λ e. e.kernel == k) new)
+  pub all_here : IsTrue (list_all (λ e. e.kernel == k) new)
   all_here = all_follow (is_mine first many) (λ e. e.kernel == k) new of_kernel all_mine
 
   kernel_now : in_kernel k (es ++ new) ≡ in_kernel k es ++ new
@@ -277,3 +277,43 @@ block_world start blocks es new b kernel old (Kexec blob) ended runs is can t he
   after (beginning start es kernel.number) (in_kernel kernel.number es ++ new),
   world_now start blocks es new b kernel old (kexec_number blocks b) blob did.outcome runs.rising (runs.kexecs b blob is) t here did.still did.did,
 )
+
+-- the number of the kernel stays in a block
+pub block_number : (n : ℕ) (kernel old : KernelValue) (new : List Entry) (block : Block) (ended : Bool) → CanDo block → DidBlock n block kernel old new ended → old.number ≡ kernel.number
+block_number n kernel old new (Round []) ended can did = ap (λ (k : KernelValue). k.number) did.0.0
+block_number n kernel old new (Round (work ∷ [])) ended can did = did.0.number
+block_number n kernel old new (Round (work ∷ more ∷ works)) ended can did = absurd can
+block_number n kernel old new (Kexec blob) ended can did = did.still.number
+
+-- all entries of a block are the kernel's
+pub block_here : (start : World) (blocks : List Block) (es new : List Entry) (b : ℕ) (kernel old : KernelValue) (block : Block) (ended : Bool)
+    → CanRun blocks → slice_get blocks b ≡ Some block → CanDo block → IsThrough start blocks es b kernel.number → IsAfter start blocks es kernel.number kernel → DidBlock (kexec_number blocks b) block kernel old new ended
+    → IsTrue (list_all (λ e. e.kernel == kernel.number) new)
+block_here start blocks es new b kernel old (Round []) ended runs is can t here did = subst (λ xs. IsTrue (list_all (λ e. e.kernel == kernel.number) xs)) (sym did.0.1) refl
+block_here start blocks es new b kernel old (Round (work ∷ [])) ended runs is can t here did =
+    all_here start blocks es new b kernel.number kernel old work runs.rising (runs.rounds b work can.above is) t can.above here did.0
+block_here start blocks es new b kernel old (Round (work ∷ more ∷ works)) ended runs is can t here did = absurd can
+block_here start blocks es new b kernel old (Kexec blob) ended runs is can t here did =
+    kexec_here start blocks es new b kernel old (kexec_number blocks b) blob did.outcome runs.rising (runs.kexecs b blob is) t here did.still did.did
+
+-- the world of the kernel that a block ended
+pub ended_world : (start : World) (blocks : List Block) (es new : List Entry) (b : ℕ) (kernel old : KernelValue) (block : Block) (ended : Bool)
+    → CanRun blocks → slice_get blocks b ≡ Some block → CanDo block → IsThrough start blocks es b kernel.number → IsAfter start blocks es kernel.number kernel → DidBlock (kexec_number blocks b) block kernel old new ended
+    → ended ≡ true → IsWorldOf old (world_of start (es ++ new) kernel.number)
+ended_world start blocks es new b kernel old (Round works) ended runs is can t here did ending = absurd (not_both ended did.1 ending)
+  where
+    not_both : (c : Bool) → c ≡ false → c ≡ true → ⊥
+    not_both c e f = cc
+ended_world start blocks es new b kernel old (Kexec blob) ended runs is can t here did ending =
+    kexec_world start blocks es new b kernel old (kexec_number blocks b) blob did.outcome runs.rising (runs.kexecs b blob is) t here did.still did.did
+
+-- a block that ended a kernel has entries
+pub ended_some : (start : World) (blocks : List Block) (es new : List Entry) (b : ℕ) (kernel old : KernelValue) (block : Block) (ended : Bool)
+    → CanRun blocks → slice_get blocks b ≡ Some block → IsThrough start blocks es b kernel.number → IsAfter start blocks es kernel.number kernel → DidBlock (kexec_number blocks b) block kernel old new ended
+    → ended ≡ true → 0 < length new
+ended_some start blocks es new b kernel old (Round works) ended runs is t here did ending = absurd (not_both ended did.1 ending)
+  where
+    not_both : (c : Bool) → c ≡ false → c ≡ true → ⊥
+    not_both c e f = cc
+ended_some start blocks es new b kernel old (Kexec blob) ended runs is t here did ending =
+    kexec_some start blocks es new b kernel old (kexec_number blocks b) blob did.outcome runs.rising (runs.kexecs b blob is) t here did.still did.did (did.ending ∙ ending)

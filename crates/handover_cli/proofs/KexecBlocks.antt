@@ -1,6 +1,8 @@
 -- A kexec that was done takes the history and the kernel on: the same kernel runs on, or the next one begins.
-use Rattle.std.proofs.Common.{◌≡◌, ℕ, ◌+◌, ◌≤◌, Bool, true, false, max, List, [], ◌∷◌, ◌++◌, length, slice_index_or, refl, sym, ap, subst, ◌∙◌, arith, IsTrue, is_some}
+use Rattle.std.proofs.Common.{◌≡◌, ℕ, ◌+◌, ◌<◌, ◌≤◌, ◌==◌, Bool, true, false, max, List, [], ◌∷◌, ◌++◌, length, slice_index_or, refl, sym, ap, subst, ◌∙◌, arith, IsTrue, is_some}
 use Rattle.std.specs.Prelude.{Option}
+use Rattle.std.specs.List.{list_all}
+use Rattle.std.proofs.lemmas.List.{append-nil}
 use Rattle.std.specs.FinMap as finmap
 use Rattle.ho_base.specs.Objects.{handler_no}
 use Rattle.ho_base.specs.declared.numbers.Blob.{Blob}
@@ -14,7 +16,9 @@ use Rattle.ho_world.specs.Entries.{in_kernel, beginning, world_of, is_ok}
 use Rattle.ho_world.specs.Frozen.{Frozen, frozen, next}
 use Rattle.ho_world.specs.Logs.{AreDone, deeds_of, paired_on}
 use Rattle.ho_world.specs.Sequences.Kexecs.{KexecOutcome}
-use Rattle.ho_world.specs.Through.{HasRisingNumbers, IsThrough}
+use Rattle.ho_world.specs.Through.{HasRisingNumbers, IsThrough, is_here}
+use Rattle.ho_world.specs.Legal.{kernel_due}
+use Rattle.ho_world.proofs.Fronts.{all_follow, and_left}
 use Rattle.ho_world.specs.World.{State, World, run, after, handler_at}
 use Rattle.ho_world.proofs.Rises.{on_parts}
 use Rattle.kexec_laws.specs.Kexecs.{IsKexecOf, IsKexeced, GivesKexec, RunsOn, BeginsNext, ends}
@@ -110,6 +114,18 @@ module _ (start : World) (blocks : List Block) (es new : List Entry) (b : ℕ) (
   unfolding kexeced
   gives = gives_kexec start blocks es new b k blob at begun numbers r t kexeced
 
+  -- all entries are the kernel's
+  pub kexec_here : IsTrue (list_all (λ e. e.kernel == k) new)
+  kexec_here = all_follow (is_here blocks b k) (λ e. e.kernel == k) new (λ e h. and_left (e.kernel == k) _ h) gives.next.here
+
+  -- the kernel's world is that of all its entries
+  pub kexec_world : IsWorldOf old (world_of start (es ++ new) k)
+  unfolding kexeced
+  kexec_world =
+      subst (IsWorldOf old)
+      (ap (λ w. after w (in_kernel k es ++ new)) (sym gives.begins) ∙ ap (after (beginning start (es ++ new) k)) (sym gives.here))
+      world_now
+
   answered : is_ok did.sequence.reply ≡ ends outcome
   answered = only_ends_are_ok (world_of start es k) blob outcome did.sequence (did.is_one (world_of start es k) (world_before start blocks es k kernel here))
 
@@ -140,6 +156,20 @@ module _ (start : World) (blocks : List Block) (es new : List Entry) (b : ℕ) (
   pub next_due : ends outcome ≡ true → BeginsNext start blocks es new b k
   unfolding kexeced
   next_due ended = begins_next start blocks es new b k blob at begun numbers r t kexeced (answered ∙ ended)
+
+  -- a kexec that ends a kernel has entries
+  pub kexec_some : ends outcome ≡ true → 0 < length new
+  kexec_some ended = at new refl
+    where
+      later : kernel_due (es ++ new) ≡ k + 1
+      later = (next_due ended).due
+
+      at : (xs : List Entry) → new ≡ xs → 0 < length xs
+      at [] none =
+          let due : kernel_due es ≡ k = here.due in
+          let same : kernel_due es ≡ k + 1 = ap kernel_due (sym (append-nil es) ∙ ap (λ ys. es ++ ys) (sym none)) ∙ later in
+          absurd omega (arith, due, same)
+      at (x ∷ xs) some = omega arith
 
   -- the next kernel
   pub next_after : (kernel' : KernelValue) → ends outcome ≡ true → ((w : World) → IsWorldOf old w → BeginsAs (old.number + 1) (frozen w) kernel')

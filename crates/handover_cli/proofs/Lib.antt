@@ -1,8 +1,12 @@
 pub mod Begins
 pub mod Blocks
 pub mod Drips
+pub mod Ends
+pub mod FileMade
 pub mod DueTexts
 pub mod Refused
+pub mod ImageWorlds
+pub mod ImagesMade
 pub mod Rounds
 pub mod Shown
 pub mod WorkedAlone

@@ -1,6 +1,6 @@
 -- A kexec as it was frozen and booted: where it begins, what was done, and which kernel follows.
 use Rattle.std.proofs.Common.{◌≡◌, ℕ, ◌+◌, ◌<◌, ◌≤◌, Bool, true, false, ◌&&◌, ◌==◌, nat_le, List, [], ◌∷◌, length, refl, sym, ap, subst, ◌∙◌, arith, IsTrue, take, zero, suc}
-use Rattle.std.specs.Prelude.{Option, None, Some, MatchOption, is_some, slice_get}
+use Rattle.std.specs.Prelude.{Option, Some, slice_get}
 use Rattle.std.specs.List.{All, list_all}
 use Rattle.std.proofs.lemmas.Bool.Decides.{nat_tests}
 use Rattle.ho_base.specs.declared.limits.TheConstants.{KEXECS}
@@ -20,8 +20,9 @@ use Rattle.kexec_laws.specs.Kexecs.{ends, kexec_number}
 use Rattle.kexec_laws.proofs.KexecNumbers.{kexecs_counted}
 use Rattle.machine_core.specs.Kernels.{KernelValue}
 use Rattle.freeze_path.specs.Freezes.{IsStill, DidKexec}
+use Rattle.handover_cli.specs.Ends.{DidAndLeft}
 use Rattle.handover_cli.specs.Works.{CanRun, DidBlock, kexec_at}
-use Rattle.handover_cli.proofs.Written.{Stands, kexec_is_few}
+use Rattle.handover_cli.specs.declared.rebooting.Next.{Next}
 
 -- where a kexec begins
 at_is : (kernel : KernelValue) (number n last : ℕ) → n ≡ kernel.number → last ≡ kernel.base → record { kernel = n; agent = record { 0 = 0 }; command = number; last = last } ≡ kexec_at kernel number
@@ -39,20 +40,6 @@ kexec_block kernel old number n last blob outcome entries ended same base still 
   did = subst (λ (at : At). DidKexec kernel at blob outcome entries) (at_is kernel number n last same base) did;
   ending = ending;
 }
-
--- a kernel that was frozen in a block has a number below the greatest one
-pub frozen_is_few : {T : Type 0} (frozen : Option T) (start : World) (blocks : List Block) (b : ℕ) (block : Block) (kernel old : KernelValue) (out mid : Option (List ℕ)) (new : List Entry)
-    → CanRun blocks → slice_get blocks b ≡ Some block → DidBlock (kexec_number blocks b) block kernel old new (is_some frozen) → Stands start blocks b kernel out mid
-    → MatchOption frozen (Unit {0}) (λ f. old.number < KEXECS)
-frozen_is_few None start blocks b block kernel old out mid new runs is did s = tt
-frozen_is_few (Some f) start blocks b (Round works) kernel old out mid new runs is did s = absurd (not_both did.1)
-  where
-    not_both : true ≡ false → ⊥
-    not_both e = cc
-frozen_is_few (Some f) start blocks b (Kexec blob) kernel old out mid new runs is did s =
-    let few = kexec_is_few start blocks b blob kernel out mid runs is s in
-    let same : old.number ≡ kernel.number = did.still.number in
-    omega (arith, few.1, same)
 
 -- what is carried has one-page memfds alone, as a test
 all_one_page : (cs : List CarriedFile) → All (λ c. (c.kind ≡ Memfd) × (c.order ≡ 0) × (length c.runs ≤ 1)) cs → IsTrue (list_all is_one_page cs)
@@ -72,8 +59,8 @@ pub one_page_test : (f : Frozen) → All (λ c. (c.kind ≡ Memfd) × (c.order �
 one_page_test f h = all_one_page (carried_files f) h
 
 -- what was done with a number that is the next one
-pub at_number : (m n : ℕ) (block : Block) (kernel old : KernelValue) (entries : List Entry) (ended : Bool) → m ≡ n → DidBlock m block kernel old entries ended → DidBlock n block kernel old entries ended
-at_number m n block kernel old entries ended same did = subst (λ x. DidBlock x block kernel old entries ended) same did
+pub did_at : (m n : ℕ) (block : Block) (kernel : KernelValue) (entries : List Entry) (left : Next) → m ≡ n → DidAndLeft m block kernel entries left → DidAndLeft n block kernel entries left
+did_at m n block kernel entries left same did = subst (λ x. DidAndLeft x block kernel entries left) same did
 
 -- the numbers of kexecs are small
 pub numbers_fit : (blocks : List Block) (b : ℕ) (block : Block) → CanRun blocks → slice_get blocks b ≡ Some block → kexec_number blocks b + kexecs_in (block ∷ []) ≤ 1 + KEXECS

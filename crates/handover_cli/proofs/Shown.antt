@@ -1,22 +1,38 @@
 -- What a finished run over a host in memory shows of its script and its output.
 use Rattle.std.proofs.Common.{◌≡◌, ◌∷◌, [], List, ℕ, Bool, true, false, nat_eq, IsTrue, codes, refl, sym, subst, ap, ◌∙◌}
-use Rattle.std.specs.Prelude.{Option, Some, unwrap_or}
+use Rattle.std.specs.Prelude.{Option, None, Some, option_map, unwrap_or}
 use Rattle.std.specs.Cmp.Lexicographic.{pointwise, told_text}
 use Rattle.ho_io.specs.Memory.{held_by}
 use Rattle.ho_io.specs.Told.{behind}
-use Rattle.handover_cli.specs.Words.{fits_run}
-use Rattle.handover_cli.specs.Run.{OfScript, OnCold, WroteAll, RanLegally}
+use Rattle.ho_events.specs.Text.{text_of}
+use Rattle.command_words.specs.Reading.{after, with_any, rest_after, with_name}
+use Rattle.command_words.specs.Requests.{asked_by}
+use Rattle.handover_cli.specs.Images.{Seen}
+use Rattle.handover_cli.specs.Words.{RunWords, run_asked, run_words}
+use Rattle.handover_cli.specs.Run.{OfScript, OnCold, WroteAll, RanLegally, with_opened}
 use Rattle.handover_cli.specs.Shown.{IsHistoryOf}
 
 abbrev the_words : List (List ℕ)
 the_words = codes "run" ∷ codes "s" ∷ []
 
-pub shown : (script text : List ℕ) (words : List (List ℕ)) (holds : List ℕ → Option (List ℕ)) → words ≡ the_words → holds (codes "s") ≡ Some script → RanLegally words holds (Some []) (Some text) → IsHistoryOf script text
+-- what the words ask for
+abbrev the_script : RunWords
+the_script = run_asked (codes "s") None
+
+words_fit : run_words the_words ≡ Some the_script
+unfolding after with_any rest_after with_name asked_by
+words_fit = refl
+
+pub shown : (script text : List ℕ) (words : List (List ℕ)) (holds : List ℕ → Option (List ℕ)) (before now : Seen) → words ≡ the_words → holds (codes "s") ≡ Some script → before.out ≡ Some [] → now.out ≡ Some text → RanLegally words holds before now → IsHistoryOf script text
 unfolding behind
-shown script text words holds words_are held ran =
-    let name_is : Some ran.name ≡ Some (codes "s") = sym ran.fits ∙ ap fits_run words_are in
-    let told_is : holds ran.name ≡ Some script = ap holds (ap (λ (o : Option (List ℕ)). unwrap_or o []) name_is) ∙ held in
-    let of : OfScript (Some script) (OnCold (λ start blocks. WroteAll start blocks (Some []) (Some text))) = subst (λ told. OfScript told (OnCold (λ start blocks. WroteAll start blocks (Some []) (Some text)))) told_is ran.wrote in
+shown script text words holds before now words_are held empty is ran =
+    let asked_is : Some ran.asked ≡ Some the_script = sym ran.fits ∙ ap run_words words_are ∙ words_fit in
+    let name_is : ran.asked.script ≡ codes "s" = ap (λ (o : Option RunWords). unwrap_or (option_map (λ (r : RunWords). r.script) o) []) asked_is in
+    let told_is : holds ran.asked.script ≡ Some script = ap holds name_is ∙ held in
+    let start : Seen = with_opened before ran.asked.script in
+    let of : OfScript (Some script) (OnCold (λ start blocks. WroteAll start blocks ran.asked.images (with_opened before ran.asked.script) now)) =
+    subst (λ told. OfScript told (OnCold (λ start blocks. WroteAll start blocks ran.asked.images (with_opened before ran.asked.script) now))) told_is ran.wrote
+    in
     record {
       script = of.script;
       read = of.read;
@@ -26,7 +42,7 @@ shown script text words holds words_are held ran =
         holds = record {
           entries = of.holds.holds.entries;
           legal = of.holds.holds.legal;
-          is = ap (λ (o : Option (List ℕ)). unwrap_or o []) of.holds.holds.written;
+          is = ap (λ (o : Option (List ℕ)). unwrap_or o []) (sym is ∙ of.holds.holds.written ∙ ap (λ o. behind o (text_of of.holds.holds.entries)) empty);
         };
       };
     }
@@ -36,10 +52,10 @@ same_as : (xs ys : List ℕ) (r : Bool) → r ≡ pointwise nat_eq xs ys → IsT
 same_as xs ys true is has = told_text xs ys true is
 same_as xs ys false is has = absurd cc
 
-pub shown_if : (script before text history : List ℕ) (words : List (List ℕ)) (held : List (List ℕ × List ℕ)) (r : Bool) → words ≡ the_words → held ≡ (codes "s", script) ∷ [] → before ≡ [] → RanLegally words (λ name. held_by name held) (Some before) (Some text) → r ≡ pointwise nat_eq text history → IsTrue r → IsHistoryOf script history
+pub shown_if : (script text history : List ℕ) (words : List (List ℕ)) (held : List (List ℕ × List ℕ)) (before now : Seen) (r : Bool) → words ≡ the_words → held ≡ (codes "s", script) ∷ [] → before.out ≡ Some [] → now.out ≡ Some text
+    → RanLegally words (λ name. held_by name held) before now → r ≡ pointwise nat_eq text history → IsTrue r → IsHistoryOf script history
 unfolding held_by
-shown_if script before text history words held r words_are held_is empty ran same has =
+shown_if script text history words held before now r words_are held_is empty is ran same has =
     subst (λ t. IsHistoryOf script t) (same_as text history r same has)
-    (shown script text words (λ name. held_by name ((codes "s", script) ∷ [])) words_are refl
-    (subst (λ o. RanLegally words (λ name. held_by name ((codes "s", script) ∷ [])) (Some o) (Some text)) empty
-    (subst (λ h. RanLegally words (λ name. held_by name h) (Some before) (Some text)) held_is ran)))
+    (shown script text words (λ name. held_by name ((codes "s", script) ∷ [])) before now words_are refl empty is
+    (subst (λ h. RanLegally words (λ name. held_by name h) before now) held_is ran))

@@ -1,15 +1,23 @@
 -- What a run asks of its host.
-use Rattle.std.specs.Prelude.{◌≡◌, ℕ, List, Option, Some, None}
+use Rattle.std.specs.Prelude.{◌≡◌, ◌⊎◌, ℕ, ◌+◌, List, zero, suc, Option, Some, None}
 use Rattle.ho_io.specs.Told.{with_item, IsOneOf}
 use Rattle.ho_io.specs.declared.host.Way.{Way}
-use Rattle.ho_io.specs.declared.host.Way.TheVariants.{Open}
+use Rattle.ho_io.specs.declared.host.Way.TheVariants.{Open, Make}
+use Rattle.handover_cli.specs.Images.{image_name}
+use Rattle.handover_cli.specs.Words.{RunWords}
 
--- it asks to open the script that the words name, or nothing;  it asks for nothing where the words name none
-abbrev pub AsksOnly : Option (List ℕ) → Option (List (Way × List ℕ)) → Option (List (Way × List ℕ)) → Type 0
+-- what was asked, and then the first n images
+unfoldable pub with_makes : Option (List (Way × List ℕ)) → List ℕ → ℕ → Option (List (Way × List ℕ))
+with_makes asked file zero = asked
+with_makes asked file (suc n) = with_item (with_makes asked file n) (Make, image_name file (n + 1))
+
+-- after the script was opened it asks for the first images, where they are asked for, and for nothing else
+abbrev pub AsksImages : Option (List ℕ) → Option (List (Way × List ℕ)) → Option (List (Way × List ℕ)) → Type 0
+AsksImages None before now = now ≡ before
+AsksImages (Some file) before now = (n : ℕ) × (now ≡ with_makes before file n)
+
+-- it asks to open the script that the words name, and then for images, or for nothing;  it asks for nothing where the words
+-- fit nothing
+abbrev pub AsksOnly : Option RunWords → Option (List (Way × List ℕ)) → Option (List (Way × List ℕ)) → Type 0
 AsksOnly None before now = now ≡ before
-AsksOnly (Some name) before now = IsOneOf before (with_item before (Open, name)) now
-
--- it asked to open the script that the words name
-abbrev pub Opened : Option (List ℕ) → Option (List (Way × List ℕ)) → Option (List (Way × List ℕ)) → Type 0
-Opened None before now = ⊥
-Opened (Some name) before now = now ≡ with_item before (Open, name)
+AsksOnly (Some asked) before now = (now ≡ before) ⊎ AsksImages asked.images (with_item before (Open, asked.script)) now

@@ -1,5 +1,8 @@
 pub mod Asked
 pub mod Due
+pub mod Ends
+pub mod Images
+pub mod Kept
 pub mod Refusals
 pub mod Rounds
 pub mod Run

@@ -1,13 +1,19 @@
 -- The words of the command line.
-use Rattle.std.specs.Prelude.{ℕ, Bool, false, not, ◌&&◌, ◌==◌, if◌then◌else◌, List, [], ◌∷◌, codes, Option, Some, None}
-use Rattle.ho_events.specs.Lists.{same_bytes}
+use Rattle.std.specs.Prelude.{ℕ, List, Option, Some, None}
+use Rattle.command_words.specs.Requests.{RequestValue, to_run, request_of}
 
--- a file's name isn't empty and doesn't begin with `-`
-abbrev pub is_file_name : List ℕ → Bool
-is_file_name [] = false
-is_file_name (b ∷ bytes) = not (b == 45)
+-- the script to run, and the name of the images where they are asked for
+pub record RunWords : Type 0 where
+  pub script : List ℕ
+  pub images : Option (List ℕ)
 
--- the script's name where the words ask to run one: exactly `run` and the name of a file
-abbrev pub fits_run : List (List ℕ) → Option (List ℕ)
-fits_run (word ∷ name ∷ []) = (if same_bytes word (codes "run") && is_file_name name then Some name else None)
-fits_run words = None
+abbrev pub run_asked : List ℕ → Option (List ℕ) → RunWords
+run_asked script images = record { script = script; images = images }
+
+-- so far the program runs scripts, and writes the text of the history to its output
+abbrev pub run_of : Option RequestValue → Option RunWords
+run_of (Some (to_run script images None)) = Some (run_asked script images)
+run_of request = None
+
+abbrev pub run_words : List (List ℕ) → Option RunWords
+run_words words = run_of (request_of words)

@@ -2,6 +2,7 @@
 #![tactic(auto)]
 
 mod agent_runner;
+mod images;
 mod rebooting;
 mod run;
 #[cfg(test)]

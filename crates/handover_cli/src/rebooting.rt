@@ -1,12 +1,10 @@
-//! Does a kexec: freezes a kernel, and boots the next one.
+//! Does a kexec: freezes a kernel, hands its frames on, and boots the next one.
 
-ghost use Rattle.std.specs.Prelude.{◌≡◌, ◌<◌, true, IfOk, MatchOption, is_some};
+ghost use Rattle.std.specs.Prelude.{◌≡◌, ◌<◌, IfOk};
 ghost use Rattle.ho_base.specs.declared.limits.TheConstants.{KEXECS};
 ghost use Rattle.ho_events.specs.declared.script.Block.TheVariants.{Kexec};
-ghost use Rattle.ho_world.specs.World.{World};
 ghost use Rattle.freeze_path.specs.Freezes.{IsOfKernel};
-ghost use Rattle.machine_core.specs.Worlds.{IsWorldOf};
-ghost use Rattle.handover_cli.specs.Works.{DidBlock, FollowsAs};
+ghost use Rattle.handover_cli.specs.Ends.{CanGoOn, CanBoot, DidAndLeft, EndedAs, BootsAs, RunsAs};
 
 use crate::agent_runner::end_kernel;
 use freeze_path::{Freezing, Frozen, freeze, kexec};
@@ -15,30 +13,59 @@ use ho_events::entry::Entry;
 use ho_events::slip::At;
 use kexec_boot::{BootError, boot};
 use machine_core::Kernel;
+use scratch_area::Handoff;
 use std::alloc::Global;
 
-/// A block that was done: the kernel as the block's entries left it, these entries, and what was frozen of the kernel,
-/// where the block is a kexec that ended it.
-pub struct BlockDone {
-    pub kernel: Kernel,
-    pub entries: Vec<Entry>,
-    pub frozen: Option<Frozen>,
+/// What a kernel left that ended: its frames, the program of the next kernel, and its own number. It can't be let go,
+/// since the frames can't.
+pub struct Ended {
+    pub handoff: Handoff,
+    pub blob: Blob,
+    pub kernel: u8,
 }
 
-/// Does a kexec of this number into a blob on a kernel, as agent 0: the kernel is frozen, or the kexec is refused.
+/// What goes on after a block.
+pub enum Next {
+    /// The same kernel.
+    Same(Kernel),
+    /// The next kernel, from what the last one left.
+    Ended(Ended),
+}
+
+/// A block that was done: its entries, and what goes on.
+pub struct BlockDone {
+    pub entries: Vec<Entry>,
+    pub next: Next,
+}
+
+/// Hands the frames of a frozen kernel on.
+fn end(kernel: Kernel, frozen: Frozen) -> Ended
+    requires made { IsOfKernel kernel frozen }
+    ensures { EndedAs kernel result }
+{
+    let number = kernel.number();
+    let blob = frozen.blob;
+    Ended {
+        handoff: kexec(kernel, frozen),
+        blob,
+        kernel: number,
+    }
+}
+
+/// Does a kexec of this number into a blob on a kernel, as agent 0: the kernel ends, and leaves frames that carry what is
+/// frozen of it, or the kexec is refused.
 ///
 /// # Errors
 ///
 /// [`NoMemory`] where memory of the host was wanted, and where the kernel's state can't be carried or its stamps are at
 /// their end. The kernel's memory is given back then.
-pub fn freeze_kernel(
+pub fn do_kexec(
     alloc: Global,
     kernel: Kernel,
     number: u32,
     blob: Blob,
 ) -> Result<BlockDone, NoMemory>
-    ensures done { IfOk result (λ d. DidBlock number (Kexec blob) kernel d.kernel d.entries.items (is_some d.frozen)) }
-    ensures frozen { IfOk result (λ d. MatchOption d.frozen (Unit {0}) (λ f. IsOfKernel d.kernel f)) }
+    ensures { IfOk result (λ d. DidAndLeft number (Kexec blob) kernel d.entries.items d.next) }
 {
     let at = At {
         kernel: kernel.number(),
@@ -49,19 +76,16 @@ pub fn freeze_kernel(
     let (kernel, entries, freezing) = freeze(alloc, kernel, at, blob);
     match freezing {
         Freezing::Frozen(frozen) => Ok(BlockDone {
-            kernel,
             entries,
-            frozen: Some(frozen),
+            next: Next::Ended(end(kernel, frozen)),
         }),
         Freezing::ScratchSmall { need: _, have: _ } => Ok(BlockDone {
-            kernel,
             entries,
-            frozen: None,
+            next: Next::Same(kernel),
         }),
         Freezing::NoFrames { need: _ } => Ok(BlockDone {
-            kernel,
             entries,
-            frozen: None,
+            next: Next::Same(kernel),
         }),
         Freezing::Late(_) | Freezing::Memory | Freezing::Broken => {
             end_kernel(kernel, Vec::new(alloc));
@@ -70,21 +94,21 @@ pub fn freeze_kernel(
     }
 }
 
-/// Boots the next kernel from what was frozen of a kernel, whose objects end. It begins with exactly what the kexec
-/// carried of the kernel's world.
+/// Boots the next kernel from what the last one left. It begins with exactly what the frames carry.
 ///
 /// # Errors
 ///
-/// [`NoMemory`] where memory of the host was wanted. All memory of the kernel is given back then.
-pub fn next_kernel(alloc: Global, kernel: Kernel, frozen: Frozen) -> Result<Kernel, NoMemory>
-    requires made { IsOfKernel kernel frozen }
-    requires world { (w : World) × IsWorldOf kernel w }
-    requires number { kernel.number < KEXECS }
-    ensures { IfOk result (FollowsAs true kernel) }
+/// [`NoMemory`] where memory of the host was wanted. All memory of the frames is given back then.
+fn boot_next(alloc: Global, ended: Ended) -> Result<Kernel, NoMemory>
+    requires can { CanBoot ended }
+    ensures { IfOk result (BootsAs ended) }
 {
-    let number = kernel.number() + 1;
-    let blob = frozen.blob;
-    match boot(alloc, kexec(kernel, frozen), blob, number) {
+    let Ended {
+        handoff,
+        blob,
+        kernel,
+    } = ended;
+    match boot(alloc, handoff, blob, kernel + 1) {
         Ok(next) => Ok(next),
         Err(error) => match error {
             BootError::Memory => Err(NoMemory),
@@ -94,46 +118,37 @@ pub fn next_kernel(alloc: Global, kernel: Kernel, frozen: Frozen) -> Result<Kern
     }
 }
 
-/// The kernel that runs after a block: the same one, or where it was frozen the next one.
+/// The kernel that runs after a block: the same one, or the one that boots from what it left.
 ///
 /// # Errors
 ///
-/// [`NoMemory`] where memory of the host was wanted. All memory of the kernel is given back then.
-pub fn go_on(alloc: Global, done: BlockDone) -> Result<Kernel, NoMemory>
-    requires frozen { MatchOption done.frozen (Unit {0}) (λ f. IsOfKernel done.kernel f) }
-    requires world { (w : World) × IsWorldOf done.kernel w }
-    requires number { MatchOption done.frozen (Unit {0}) (λ f. done.kernel.number < KEXECS) }
-    ensures { IfOk result (FollowsAs (is_some done.frozen) done.kernel) }
+/// [`NoMemory`] where memory of the host was wanted. All memory of the frames is given back then.
+pub fn go_on(alloc: Global, next: Next) -> Result<Kernel, NoMemory>
+    requires { CanGoOn next }
+    ensures { IfOk result (RunsAs next) }
 {
-    let BlockDone {
-        kernel,
-        entries: _,
-        frozen,
-    } = done;
-    match frozen {
-        Some(frozen) => next_kernel(alloc, kernel, frozen),
-        None => Ok(kernel),
+    match next {
+        Next::Same(kernel) => Ok(kernel),
+        Next::Ended(ended) => boot_next(alloc, ended),
     }
 }
 
-/// Gives the memory of a block's kernel back, with the frames of what was frozen.
-pub fn end_block(alloc: Global, done: BlockDone)
-    requires { MatchOption done.frozen (Unit {0}) (λ f. IsOfKernel done.kernel f) }
-{
-    let BlockDone {
-        kernel,
-        entries: _,
-        frozen,
-    } = done;
-    match frozen {
-        Some(frozen) => {
-            let Frozen {
-                carried: _,
+/// Gives the memory back of what would go on.
+pub fn end_next(alloc: Global, next: Next) {
+    match next {
+        Next::Same(kernel) => end_kernel(kernel, Vec::new(alloc)),
+        Next::Ended(ended) => {
+            let Ended {
+                handoff,
                 blob: _,
-                folios,
-            } = frozen;
-            end_kernel(kernel, folios);
+                kernel: _,
+            } = ended;
+            let Handoff {
+                frames,
+                shape: _,
+                entry: _,
+            } = handoff;
+            frames.end();
         }
-        None => end_kernel(kernel, Vec::new(alloc)),
     }
 }

@@ -4,6 +4,8 @@ ghost use Rattle.std.specs.Prelude.{◌≡◌, ◌∷◌, [], IfOk, codes, map, 
 
 mod drip;
 mod files;
+mod frames;
+mod images;
 mod kernels;
 mod pools;
 mod rows;

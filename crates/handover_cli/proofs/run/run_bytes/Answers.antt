@@ -1,5 +1,7 @@
 -- What was written is of a script that isn't refused, or of the line of a refusal.
-use Rattle.std.proofs.Common.{inl, inr}
+use Rattle.std.proofs.Common.{inl, inr, sym, subst}
+use Rattle.handover_cli.specs.Asked.{AsksImages}
+use Rattle.handover_cli.proofs.ImagesMade.{no_asks}
 use Rattle.script_text.specs.Errors.{Says}
 use Rattle.handover_cli.proofs.DueTexts.{accepted, refused, front_by, refusal_told, line_due}
 use Rattle.handover_cli.specs.Refusals.{line_text}
@@ -21,3 +23,9 @@ returns-in-Err-Bad-clause-refused g c = λ h.
 pub returns-in-Err-Bad-clause-part : goal.returns-in-Err-Bad-clause-part
 returns-in-Err-Bad-clause-part g c = λ h.
     inl (front_by _ _ _ _ (λ text is. line_due _ _ _ is (refused _ c.requires _ (refusal_told c.args.bytes.now c.in-Err-Bad.field-0 c.in-Err-Bad.line _ c.in-Err-Bad.ensures.bad c.in-Err-Bad.field-0-is))) (c.refuse_line.ensures.part h))
+
+pub returns-in-Err-Bad-clause-asked : goal.returns-in-Err-Bad-clause-asked
+returns-in-Err-Bad-clause-asked g c = subst (AsksImages _ _) (sym c.refuse_line.ensures.asked_kept) (no_asks _ _)
+
+pub returns-in-Err-Memory-clause-asked : goal.returns-in-Err-Memory-clause-asked
+returns-in-Err-Memory-clause-asked g c = no_asks _ _

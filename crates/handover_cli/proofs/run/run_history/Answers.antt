@@ -2,6 +2,7 @@
 use Rattle.std.proofs.Common.{sym, subst}
 use Rattle.handover_cli.specs.Works.{CanRun}
 use Rattle.handover_cli.proofs.Begins.{cold_after, can_run}
+use Rattle.handover_cli.proofs.ImagesMade.{no_asks}
 use Rattle.handover_cli.proofs.Written.{none_written}
 use Rattle.handover_cli.proofs.run.run_history.Goals as goal
 
@@ -15,4 +16,7 @@ run_blocks-requires-clause-cold g c =
     cold_after c.in-Some.shape _ c.in-Ok.kernel of.number of.shape of.begun of.histories of.labels of.base of.updates
 
 pub returns-clause-memory : goal.returns-clause-memory
-returns-clause-memory g c = λ _. record { shape = c.in-Some.shape; shape_is = c.in-Some.is; holds = none_written _ _ _ }
+returns-clause-memory g c = λ _. record { shape = c.in-Some.shape; shape_is = c.in-Some.is; holds = none_written _ _ _ _ }
+
+pub returns-clause-asked : goal.returns-clause-asked
+returns-clause-asked g c = no_asks _ _

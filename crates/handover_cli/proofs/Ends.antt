@@ -1,0 +1,30 @@
+-- What an ended kernel left lets the next one boot, and that one follows it.
+use Rattle.std.proofs.Common.{◌≡◌, ℕ, ◌+◌, ◌<◌, ◌≤◌, Bool, true, false, List, refl, sym, subst, ◌∙◌, arith}
+use Rattle.std.specs.Prelude.{Option, None, Some, slice_get}
+use Rattle.ho_base.specs.ShapeRule.{Layout}
+use Rattle.ho_base.specs.declared.limits.TheConstants.{KEXECS}
+use Rattle.ho_world.specs.Frozen.{frozen, scratch_need, scratch_have}
+use Rattle.ho_world.specs.World.{World}
+use Rattle.kexec_boot.specs.Begins.{BeginsAs}
+use Rattle.machine_core.specs.Kernels.{KernelValue}
+use Rattle.machine_core.specs.Worlds.{IsWorldOf}
+use Rattle.handover_cli.specs.Ends.{LeftAs, has_ended, CanGoOn, RunsAs}
+use Rattle.handover_cli.specs.Works.{FollowsAs}
+use Rattle.handover_cli.specs.declared.rebooting.Next.{Next}
+use Rattle.handover_cli.specs.declared.rebooting.Next.TheVariants as next
+
+pub follows : (old : KernelValue) (n : Next) (kernel' : KernelValue) → LeftAs old n → RunsAs n kernel' → FollowsAs (has_ended n) old kernel'
+follows old (next.Same kernel) kernel' left runs = runs ∙ left
+follows old (next.Ended e) kernel' left boots =
+    λ w is. subst (λ k. BeginsAs (k + 1) (frozen w) kernel') left.kernel (boots (frozen w) (left.carries w is))
+
+pub can_go_on : (old : KernelValue) (n : Next) → LeftAs old n → (w : World) × IsWorldOf old w → (has_ended n ≡ true → old.number < KEXECS) → CanGoOn n
+can_go_on old (next.Same kernel) left w few = tt
+can_go_on old (next.Ended e) left w few = record {
+  state = frozen w.0;
+  carries = left.carries w.0 w.1;
+  shape = left.same_shape w.0 w.1 ∙ sym left.shape;
+  pages = left.pages w.0 w.1;
+  fits = subst (λ (s : Layout). scratch_need s e.blob ≤ scratch_have s) (sym left.shape) left.fits;
+  few = subst (λ k. k < KEXECS) (sym left.kernel) (few refl);
+}
