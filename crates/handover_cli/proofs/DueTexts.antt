@@ -1,11 +1,11 @@
 -- What is due for a script that was read, that is refused, or that is too long.
-use Rattle.std.proofs.Common.{◌≡◌, ℕ, ◌+◌, ◌<◌, ◌≤◌, Bool, true, false, not, nat_lt, List, ◌++◌, length, length-append, take, refl, ap, sym, ◌∙◌, arith, subst}
+use Rattle.std.proofs.Common.{◌≡◌, ℕ, ◌+◌, ◌<◌, ◌≤◌, Bool, true, false, nat_lt, List, ◌++◌, length, length-append, refl, ap, sym, ◌∙◌, arith, subst}
 use Rattle.std.specs.Prelude.{Option, None, Some, option_map, if◌then◌else◌, Result, Ok, Err, Vec}
 use Rattle.std.specs.Result.{result_ok, result_err}
 use Rattle.std.specs.declared.alloc.Global.{Global}
 use Rattle.std.proofs.lemmas.Bool.Decides.{nat_tests}
 use Rattle.ho_base.specs.declared.limits.TheConstants.{SCRIPT_BYTES}
-use Rattle.ho_io.specs.Told.{behind, in_front}
+use Rattle.ho_io.specs.Told.{in_front}
 use Rattle.ho_io.specs.Outcome.{IfTooLong}
 use Rattle.ho_io.specs.declared.source.ReadError.{ReadError}
 use Rattle.ho_io.specs.declared.source.ReadError.TheVariants.{TooLong}

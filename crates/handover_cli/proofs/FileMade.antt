@@ -1,5 +1,5 @@
 -- A file that was made: what a host tells of it when it is shut.
-use Rattle.std.proofs.Common.{◌≡◌, ℕ, ◌<◌, List, [], refl, ap, ◌∙◌, length, take}
+use Rattle.std.proofs.Common.{◌≡◌, ℕ, List, [], refl, ap, ◌∙◌}
 use Rattle.std.specs.Prelude.{Option, None, Some}
 use Rattle.ho_io.specs.Told.{behind, told_with, with_sink}
 

@@ -1,5 +1,5 @@
 -- What is seen on a host as images are made one after another.
-use Rattle.std.proofs.Common.{◌≡◌, ℕ, ◌+◌, ◌-◌, ◌<◌, ◌≤◌, List, [], ◌∷◌, ◌++◌, length, refl, sym, ap, subst, ◌∙◌, arith, zero, suc, inl, inr, ◌⊎◌}
+use Rattle.std.proofs.Common.{◌≡◌, ℕ, ◌+◌, ◌<◌, List, [], ◌∷◌, ◌++◌, length, refl, sym, ap, subst, ◌∙◌, arith, suc, inl, inr, ◌⊎◌}
 use Rattle.std.specs.Prelude.{Option, None, Some, take}
 use Rattle.ho_io.specs.declared.host.Way.{Way}
 use Rattle.ho_events.specs.declared.entry.Entry.{Entry}
@@ -8,12 +8,12 @@ use Rattle.ho_io.specs.declared.host.Way.TheVariants.{Make}
 use Rattle.ho_world.specs.Entries.{world_of}
 use Rattle.ho_world.specs.Frozen.{frozen}
 use Rattle.ho_world.specs.World.{World}
-use Rattle.handover_cli.specs.Images.{Seen, seen, IsUnasked, IsImageOf, IsPartOf, AreImages, Made, MadeImages, MadeSome, MadeLess, image_name, with_file, with_image, with_images}
+use Rattle.handover_cli.specs.Images.{Seen, IsUnasked, IsImageOf, AreImages, Made, MadeImages, MadeSome, MadeLess, image_name, with_file, with_image, with_images}
 use Rattle.ho_events.specs.declared.script.Block.{Block}
 use Rattle.ho_world.specs.Legal.{kernel_due}
 use Rattle.handover_cli.specs.Asked.{with_makes, AsksImages}
 use Rattle.handover_cli.specs.Run.{WroteAll, WroteBlocks, WroteSoFar}
-use Rattle.handover_cli.proofs.ImageWorlds.{images_stay, images_more, no_images}
+use Rattle.handover_cli.proofs.ImageWorlds.{images_more, no_images}
 
 -- a host tells, or it doesn't, also after it wrote more
 told_same : (out : Option (List ℕ)) (text bytes : List ℕ) → told_with (behind out text) bytes ≡ told_with out bytes

@@ -1,6 +1,6 @@
 -- A kexec as it was frozen and booted: where it begins, what was done, and which kernel follows.
-use Rattle.std.proofs.Common.{◌≡◌, ℕ, ◌+◌, ◌<◌, ◌≤◌, Bool, true, false, ◌&&◌, ◌==◌, nat_le, List, [], ◌∷◌, length, refl, sym, ap, subst, ◌∙◌, arith, IsTrue, take, zero, suc}
-use Rattle.std.specs.Prelude.{Option, Some, slice_get}
+use Rattle.std.proofs.Common.{◌≡◌, ℕ, ◌+◌, ◌≤◌, Bool, ◌&&◌, ◌==◌, nat_le, List, [], ◌∷◌, length, refl, sym, ap, subst, ◌∙◌, arith, IsTrue, take, zero, suc}
+use Rattle.std.specs.Prelude.{Some, slice_get}
 use Rattle.std.specs.List.{All, list_all}
 use Rattle.std.proofs.lemmas.Bool.Decides.{nat_tests}
 use Rattle.ho_base.specs.declared.limits.TheConstants.{KEXECS}
@@ -8,14 +8,13 @@ use Rattle.ho_base.specs.declared.numbers.Blob.{Blob}
 use Rattle.ho_events.specs.Script.Rules.{kexecs_in}
 use Rattle.ho_events.specs.declared.entry.Entry.{Entry}
 use Rattle.ho_events.specs.declared.script.Block.{Block}
-use Rattle.ho_events.specs.declared.script.Block.TheVariants.{Round, Kexec}
+use Rattle.ho_events.specs.declared.script.Block.TheVariants.{Kexec}
 use Rattle.ho_events.specs.declared.slip.At.{At}
 use Rattle.ho_base.specs.declared.numbers.Kind.TheVariants.{Memfd}
 use Rattle.ho_world.specs.Frozen.{CarriedFile, Frozen, carried_files}
 use Rattle.ho_world.specs.Sequences.Kexecs.{KexecOutcome}
 use Rattle.ho_world.proofs.Fronts.{and_both, eq_test}
 use Rattle.next_laws.specs.Begins.{is_memfd, is_one_page, are_one_page}
-use Rattle.ho_world.specs.World.{World}
 use Rattle.kexec_laws.specs.Kexecs.{ends, kexec_number}
 use Rattle.kexec_laws.proofs.KexecNumbers.{kexecs_counted}
 use Rattle.machine_core.specs.Kernels.{KernelValue}

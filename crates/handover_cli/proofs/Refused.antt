@@ -1,5 +1,5 @@
 -- The line of a refusal, by the word that tells its reason.
-use Rattle.std.proofs.Common.{◌≡◌, ◌++◌, ◌<◌, List, ℕ, codes, decimal, ap, sym, subst, ◌∙◌, length, take}
+use Rattle.std.proofs.Common.{◌≡◌, ◌++◌, ◌<◌, List, ℕ, codes, decimal, ap, ◌∙◌, length, take}
 use Rattle.std.specs.Prelude.{Option}
 use Rattle.ho_events.specs.declared.line.Reason.{Reason}
 use Rattle.ho_io.specs.Told.{behind}

@@ -1,5 +1,5 @@
 -- What an agent did alone, as the kernel shows it afterwards.
-use Rattle.std.proofs.Common.{◌≡◌, ◌≢◌, ℕ, ◌+◌, ◌<◌, max, nat_le, List, [], ◌++◌, length, map, ap, sym, ◌∙◌, subst, arith, IsTrue, slice_index_or, slice_set, get_or-set_same, get_or-set_other}
+use Rattle.std.proofs.Common.{◌≡◌, ◌≢◌, ℕ, ◌<◌, max, nat_le, List, [], ◌++◌, length, map, ap, sym, ◌∙◌, subst, IsTrue, slice_index_or, slice_set, get_or-set_same, get_or-set_other}
 use Rattle.std.specs.Prelude.{Option, Some}
 use Rattle.std.specs.FinMap as finmap
 use Rattle.std.specs.List.{list_all}

@@ -1,6 +1,6 @@
 -- What a run asks of its host.
 use Rattle.std.specs.Prelude.{◌≡◌, ◌⊎◌, ℕ, ◌+◌, List, zero, suc, Option, Some, None}
-use Rattle.ho_io.specs.Told.{with_item, IsOneOf}
+use Rattle.ho_io.specs.Told.{with_item}
 use Rattle.ho_io.specs.declared.host.Way.{Way}
 use Rattle.ho_io.specs.declared.host.Way.TheVariants.{Open, Make}
 use Rattle.handover_cli.specs.Images.{image_name}

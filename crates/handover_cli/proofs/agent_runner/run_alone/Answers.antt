@@ -1,5 +1,5 @@
 -- An agent begins after the kernel's greatest stamp, and what it did is shown by the kernel afterwards.
-use Rattle.std.proofs.Common.{refl, sym, ap, ◌∙◌, subst, ◌<◌, slice_index_or}
+use Rattle.std.proofs.Common.{sym, ap, ◌∙◌, subst, ◌<◌, slice_index_or}
 use Rattle.std.specs.FinMap as finmap
 use Rattle.machine_core.specs.Kernels.{KernelValue, starts_in}
 use Rattle.machine_core.specs.Plain.{agent_of, anchor_of}

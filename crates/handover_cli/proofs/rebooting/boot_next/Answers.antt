@@ -1,6 +1,6 @@
 -- A boot is never refused for what an ended kernel left: the frames carry a state, its shape is the machine's, and it has
 -- one-page memfds alone.
-use Rattle.std.proofs.Common.{◌≡◌, sym, subst, ◌∙◌}
+use Rattle.std.proofs.Common.{subst}
 use Rattle.kexec_boot.specs.Refused.{IsBootRefusal}
 use Rattle.handover_cli.proofs.NextKernels.{one_page_test}
 use Rattle.handover_cli.proofs.rebooting.boot_next.Goals as goal

@@ -1,5 +1,5 @@
 -- Each block that is done and written goes on from those before it.
-use Rattle.std.proofs.Common.{◌≡◌, refl, ◌∙◌, arith}
+use Rattle.std.proofs.Common.{refl, ◌∙◌, arith}
 use Rattle.std.specs.Prelude.{option_map}
 use Rattle.ho_world.specs.World.{cold}
 use Rattle.handover_cli.specs.Images.{seen}

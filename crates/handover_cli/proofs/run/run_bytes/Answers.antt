@@ -2,7 +2,6 @@
 use Rattle.std.proofs.Common.{inl, inr, sym, subst}
 use Rattle.handover_cli.specs.Asked.{AsksImages}
 use Rattle.handover_cli.proofs.ImagesMade.{no_asks}
-use Rattle.script_text.specs.Errors.{Says}
 use Rattle.handover_cli.proofs.DueTexts.{accepted, refused, front_by, refusal_told, line_due}
 use Rattle.handover_cli.specs.Refusals.{line_text}
 use Rattle.handover_cli.proofs.run.run_bytes.Goals as goal
