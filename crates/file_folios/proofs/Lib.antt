@@ -1,0 +1,17 @@
+pub mod Clearing
+pub mod Cutting
+pub mod Division
+pub mod Extended
+pub mod FileStates
+pub mod Filling
+pub mod Given
+pub mod Giving
+pub mod Lists
+pub mod Places
+pub mod Ranges
+pub mod Reading
+pub mod Sizes
+pub mod SlotBytes
+pub mod SlotRuns
+pub mod Steps
+pub mod Writing

@@ -1,0 +1,5 @@
+pub mod FileAnswers
+pub mod FileFoliosValues
+pub mod FileParts
+pub mod Sized
+pub mod Slots

@@ -1,0 +1,4 @@
+pub mod PoolTags
+pub mod PoolFramesValues
+pub mod PoolLending
+pub mod PoolAdopting
