@@ -1,6 +1,7 @@
 //! The allocator at worked values, beside a plain list that says of each frame whether it is free.
 
 ghost use Rattle.std.specs.Prelude.{◌≡◌, ◌+◌, ◌<◌, ◌≤◌, All, IfOk, IsTrue, length, vec_capacity, vec_len, []};
+ghost use Rattle.ho_base.specs.declared.limits.TheConstants.{MAX_ORDER};
 ghost use Rattle.buddy_pages.specs.FreeFrames.{all_but_first, is_free_run, without_runs};
 
 use buddy_pages::Buddy;
@@ -73,23 +74,33 @@ fn numbers(alloc: Global, runs: &[Pfn]) -> Result<Vec<u32>, AllocError> {
     runs.iter().map(|run| run.0).collect(alloc)
 }
 
+/// The numbers of the first frames of so many runs of an order, which are taken; none where there are too few.
+fn take_runs(
+    alloc: Global,
+    buddy: &mut Buddy,
+    order: Order,
+    count: u32,
+) -> Result<Option<Vec<u32>>, AllocError>
+    requires { order.0 ≤ MAX_ORDER }
+{
+    let mut runs = Vec::with_capacity(alloc, count as usize)?;
+    if !buddy.take(order, count, &mut runs) {
+        return Ok(None);
+    }
+    let first = numbers(alloc, runs.as_slice())?;
+    Ok(Some(first))
+}
+
 #[test]
 fn a_reserved_frame_halves_the_greatest_runs(rt: HostRuntime) -> Result<(), Fail> {
     let alloc = rt.alloc();
     let mut buddy = Buddy::new(alloc, 1024)?;
     let mut free = first_free(alloc, 1024)?;
     assert!(rt; reserve_frame(&mut buddy, &mut free, 512));
-    let mut none = Vec::with_capacity(alloc, 1)?;
-    assert!(rt; !buddy.take(Order(9), 1, &mut none));
-    assert!(rt; none.is_empty());
-    let mut three = Vec::with_capacity(alloc, 3)?;
-    assert!(rt; !buddy.take(Order(8), 3, &mut three));
-    let mut two = Vec::with_capacity(alloc, 2)?;
-    assert!(rt; buddy.take(Order(8), 2, &mut two));
-    assert_eq!(rt;
-        numbers(alloc, two.as_slice())?.as_slice(),
-        [256, 768].as_slice()
-    );
+    assert!(rt; take_runs(alloc, &mut buddy, Order(9), 1)?.is_none());
+    assert!(rt; take_runs(alloc, &mut buddy, Order(8), 3)?.is_none());
+    let two = take_runs(alloc, &mut buddy, Order(8), 2)?.ok_or("too few runs")?;
+    assert_eq!(rt; two.as_slice(), [256, 768].as_slice());
     Ok(())
 }
 
