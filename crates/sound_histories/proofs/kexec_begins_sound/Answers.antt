@@ -1,0 +1,5 @@
+use Rattle.sound_histories.proofs.Kexecs as laws
+use Rattle.sound_histories.proofs.kexec_begins_sound.Goals as goal
+
+pub returns : goal.returns
+returns c = laws.kexec_begins_sound

@@ -1,0 +1,5 @@
+pub mod Binding
+pub mod Blocks
+pub mod Kept
+pub mod Scripts
+pub mod Worlds
