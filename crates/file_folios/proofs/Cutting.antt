@@ -13,11 +13,11 @@ folios_first None slots = refl
 folios_first (Some f) slots = refl
 
 -- the folios below an index are taken out
-pub record Taking (from : ℕ) (old : List (Option FolioValue)) (runs : List Pfn) (given : List FolioValue) (at : ℕ) (now : List (Option FolioValue)) (told : List Pfn) (have : List FolioValue) : Type 0 where
+pub record Taking (from : ℕ) (old : List (Option FolioValue)) (runs : List Pfn) (given : List FolioValue) (at : ℕ) (now : List (Option FolioValue)) (listed : List Pfn) (have : List FolioValue) : Type 0 where
   pub after : from ≤ at
   pub within : at ≤ length old
   pub places : now ≡ (take from old ++ replicate (at - from) None) ++ drop at old
-  pub told_all : told ++ first_frames (folios_in (drop at old)) ≡ runs ++ first_frames (folios_in (drop from old))
+  pub runs_all : listed ++ first_frames (folios_in (drop at old)) ≡ runs ++ first_frames (folios_in (drop from old))
   pub given_all : have ++ folios_in (drop at old) ≡ given ++ folios_in (drop from old)
 
 module _ (from : ℕ) (old : List (Option FolioValue)) (runs : List Pfn) (given : List FolioValue) where
@@ -26,7 +26,7 @@ module _ (from : ℕ) (old : List (Option FolioValue)) (runs : List Pfn) (given 
     after = omega arith;
     within = le;
     places = begun (from - from) (omega arith);
-    told_all = refl;
+    runs_all = refl;
     given_all = refl;
   }
     where
@@ -38,7 +38,7 @@ module _ (from : ℕ) (old : List (Option FolioValue)) (runs : List Pfn) (given 
       begun : (k : ℕ) → k ≡ 0 → old ≡ (take from old ++ replicate k None) ++ drop from old
       begun k e = rw e (sym (ap (λ t. t ++ drop from old) (append-nil (take from old)) ∙ parts from old))
 
-  module _ (at : ℕ) (now : List (Option FolioValue)) (told : List Pfn) (have : List FolioValue) (t : Taking from old runs given at now told have) where
+  module _ (at : ℕ) (now : List (Option FolioValue)) (listed : List Pfn) (have : List FolioValue) (t : Taking from old runs given at now listed have) where
     abbrev front : List (Option FolioValue)
     front = take from old ++ replicate (at - from) None
 
@@ -64,19 +64,19 @@ module _ (from : ℕ) (old : List (Option FolioValue)) (runs : List Pfn) (given 
       folios_next : folios_in (drop at old) ≡ slot_list (slot_at now at) ++ folios_in (drop (at + 1) old)
       folios_next = ap folios_in split ∙ folios_first (slot_at old at) (drop (at + 1) old) ∙ ap (λ s. slot_list s ++ folios_in (drop (at + 1) old)) (sym slot_same)
 
-      pub taking_more : (next : List (Option FolioValue)) (tell : List Pfn) (got : List FolioValue) →
-          next ≡ slice_set now at None → tell ≡ told ++ first_frames (slot_list (slot_at now at)) → got ≡ have ++ slot_list (slot_at now at) →
-          Taking from old runs given (at + 1) next tell got
-      taking_more next tell got en et eg = record {
+      pub taking_more : (next : List (Option FolioValue)) (longer : List Pfn) (got : List FolioValue) →
+          next ≡ slice_set now at None → longer ≡ listed ++ first_frames (slot_list (slot_at now at)) → got ≡ have ++ slot_list (slot_at now at) →
+          Taking from old runs given (at + 1) next longer got
+      taking_more next longer got en et eg = record {
         after = omega (arith, t.after);
         within = omega (arith, inside);
         places = en ∙ ap (λ xs. slice_set xs at None) shape ∙ set_at front (slot_at old at) (drop (at + 1) old) None at front_long
             ∙ sym (append_assoc front (None ∷ []) (drop (at + 1) old))
             ∙ ap (λ f. f ++ drop (at + 1) old) (append_assoc (take from old) (replicate (at - from) None) (None ∷ []) ∙ ap (λ r. take from old ++ r) (replicate-append-replicate (at - from) 1 None))
             ∙ ap (λ k. (take from old ++ replicate k None) ++ drop (at + 1) old) (omega (arith, t.after));
-        told_all = ap (λ x. x ++ first_frames (folios_in (drop (at + 1) old))) et ∙ append_assoc told (first_frames (slot_list (slot_at now at))) (first_frames (folios_in (drop (at + 1) old)))
-            ∙ ap (λ x. told ++ x) (sym (map-append (λ (f : FolioValue). f.first) (slot_list (slot_at now at)) (folios_in (drop (at + 1) old))))
-            ∙ ap (λ x. told ++ first_frames x) (sym folios_next) ∙ t.told_all;
+        runs_all = ap (λ x. x ++ first_frames (folios_in (drop (at + 1) old))) et ∙ append_assoc listed (first_frames (slot_list (slot_at now at))) (first_frames (folios_in (drop (at + 1) old)))
+            ∙ ap (λ x. listed ++ x) (sym (map-append (λ (f : FolioValue). f.first) (slot_list (slot_at now at)) (folios_in (drop (at + 1) old))))
+            ∙ ap (λ x. listed ++ first_frames x) (sym folios_next) ∙ t.runs_all;
         given_all = ap (λ x. x ++ folios_in (drop (at + 1) old)) eg ∙ append_assoc have (slot_list (slot_at now at)) (folios_in (drop (at + 1) old))
             ∙ ap (λ x. have ++ x) (sym folios_next) ∙ t.given_all;
       }
@@ -105,8 +105,8 @@ module _ (from : ℕ) (old : List (Option FolioValue)) (runs : List Pfn) (given 
       pub taken_places : (n : ℕ) → n ≡ length old → now ≡ take from old ++ replicate (n - from) None
       taken_places n e = t.places ∙ ap (λ d. front ++ d) none_left ∙ append-nil front ∙ ap (λ k. take from old ++ replicate (k - from) None) (omega (arith, now_long, t.within, e))
 
-      pub taken_told : told ≡ runs ++ first_frames (folios_in (drop from old))
-      taken_told = sym (append-nil told) ∙ ap (λ x. told ++ first_frames x) (sym no_folios) ∙ t.told_all
+      pub taken_runs : listed ≡ runs ++ first_frames (folios_in (drop from old))
+      taken_runs = sym (append-nil listed) ∙ ap (λ x. listed ++ first_frames x) (sym no_folios) ∙ t.runs_all
 
       pub taken_given : have ≡ given ++ folios_in (drop from old)
       taken_given = sym (append-nil have) ∙ ap (λ x. have ++ x) (sym no_folios) ∙ t.given_all
@@ -143,30 +143,30 @@ front_same count n old now le e = ap (take count) e ∙ take_at (take count old)
 pub folios_at : (slots : List (Option FolioValue)) (at : ℕ) (d : Option FolioValue) → at < length slots → folios_in (drop at slots) ≡ slot_list (get_or slots at d) ++ folios_in (drop (at + 1) slots)
 folios_at slots at d lt = ap folios_in (drop_more slots at d lt) ∙ folios_first (get_or slots at d) (drop (at + 1) slots)
 
--- the runs of the folios below an index are told
-pub record Telling (slots : List (Option FolioValue)) (before : List Pfn) (at : ℕ) (told : List Pfn) : Type 0 where
-  pub told_all : told ++ first_frames (folios_in (drop at slots)) ≡ before ++ first_frames (folios_in slots)
+-- the runs of the folios below an index are listed
+pub record Listing (slots : List (Option FolioValue)) (before : List Pfn) (at : ℕ) (listed : List Pfn) : Type 0 where
+  pub runs_all : listed ++ first_frames (folios_in (drop at slots)) ≡ before ++ first_frames (folios_in slots)
 
-pub telling_begins : (slots : List (Option FolioValue)) (before : List Pfn) → Telling slots before 0 before
-telling_begins slots before = record { told_all = refl }
+pub listing_begins : (slots : List (Option FolioValue)) (before : List Pfn) → Listing slots before 0 before
+listing_begins slots before = record { runs_all = refl }
 
-module _ (slots : List (Option FolioValue)) (before : List Pfn) (at : ℕ) (told : List Pfn) (t : Telling slots before at told) where
-  pub telling_more : (d s : Option FolioValue) (next : List Pfn) → at < length slots → s ≡ get_or slots at d → next ≡ told ++ first_frames (slot_list s) → Telling slots before (at + 1) next
-  telling_more d s next lt is e = record {
-    told_all = ap (λ x. x ++ first_frames (folios_in (drop (at + 1) slots))) e ∙ append_assoc told (first_frames (slot_list s)) (first_frames (folios_in (drop (at + 1) slots)))
-        ∙ ap (λ x. told ++ x) (sym (map-append (λ (f : FolioValue). f.first) (slot_list s) (folios_in (drop (at + 1) slots))))
-        ∙ ap (λ x. told ++ first_frames x) (ap (λ o. slot_list o ++ folios_in (drop (at + 1) slots)) is ∙ sym (folios_at slots at d lt)) ∙ t.told_all;
+module _ (slots : List (Option FolioValue)) (before : List Pfn) (at : ℕ) (listed : List Pfn) (t : Listing slots before at listed) where
+  pub listing_more : (d s : Option FolioValue) (next : List Pfn) → at < length slots → s ≡ get_or slots at d → next ≡ listed ++ first_frames (slot_list s) → Listing slots before (at + 1) next
+  listing_more d s next lt is e = record {
+    runs_all = ap (λ x. x ++ first_frames (folios_in (drop (at + 1) slots))) e ∙ append_assoc listed (first_frames (slot_list s)) (first_frames (folios_in (drop (at + 1) slots)))
+        ∙ ap (λ x. listed ++ x) (sym (map-append (λ (f : FolioValue). f.first) (slot_list s) (folios_in (drop (at + 1) slots))))
+        ∙ ap (λ x. listed ++ first_frames x) (ap (λ o. slot_list o ++ folios_in (drop (at + 1) slots)) is ∙ sym (folios_at slots at d lt)) ∙ t.runs_all;
   }
 
   none_past_end : folios_in (drop at slots) ≡ folios_in [] → folios_in (drop at slots) ≡ []
   unfolding folios_in
   none_past_end e = e
 
-  pub telling_ends : length slots ≤ at → told ≡ before ++ first_frames (folios_in slots)
-  telling_ends h = sym (append-nil told) ∙ ap (λ x. told ++ first_frames x) (sym (none_past_end (ap folios_in (drop_all at slots h)))) ∙ t.told_all
+  pub listing_ends : length slots ≤ at → listed ≡ before ++ first_frames (folios_in slots)
+  listing_ends h = sym (append-nil listed) ∙ ap (λ x. listed ++ first_frames x) (sym (none_past_end (ap folios_in (drop_all at slots h)))) ∙ t.runs_all
 
-pub telling_room : (slots : List (Option FolioValue)) (at : ℕ) (d s : Option FolioValue) → at < length slots → s ≡ get_or slots at d → length (folios_in (drop at slots)) ≡ length (slot_list s) + length (folios_in (drop (at + 1) slots))
-telling_room slots at d s lt is =
+pub listing_room : (slots : List (Option FolioValue)) (at : ℕ) (d s : Option FolioValue) → at < length slots → s ≡ get_or slots at d → length (folios_in (drop at slots)) ≡ length (slot_list s) + length (folios_in (drop (at + 1) slots))
+listing_room slots at d s lt is =
     ap length (folios_at slots at d lt) ∙ length-append (slot_list (get_or slots at d)) (folios_in (drop (at + 1) slots))
     ∙ ap (λ o. length (slot_list o) + length (folios_in (drop (at + 1) slots))) (sym is)
 

@@ -99,7 +99,7 @@ not_frozen_below s size end long le =
     let e : nat_lt size end ≡ false = grind (arith, nat_tests) in
     e ∙ sym (ap (λ n. nat_lt n end && is_frozen s) long ∙ ap (λ b. b && is_frozen s) e)
 
--- what is told of the state
+-- the facts of a state
 abbrev facts_with : Kind → Order → ℕ → ℕ → Bool → Bool → Bool → Facts
 facts_with kind order size position opened pin hold = record { kind = kind; order = order; size = size; position = position; opened = opened; pin = pin; hold = hold }
 
@@ -137,16 +137,16 @@ few_slots home order size slots k =
     times (suc n) p some = let rest : n ≤ n * p = times n p some in omega arith
 
 -- all holes filled, and pinned
-pub state_pinned : (s : FileState) (home : HomeId) (kind : Kind) (order : Order) (size position : ℕ) (opened pin hold : Bool) (slots now : List (Option FolioValue)) (told : List Pfn) → KeepsFile home order size slots →
+pub state_pinned : (s : FileState) (home : HomeId) (kind : Kind) (order : Order) (size position : ℕ) (opened pin hold : Bool) (slots now : List (Option FolioValue)) (used : List Pfn) → KeepsFile home order size slots →
     state_of kind order size position opened pin hold slots ≡ s →
     all_bytes (piece_bytes order) now ≡ all_bytes (piece_bytes order) slots →
-    runs_in now ≡ filled (holes_in slots (places 0 (length slots))) (firsts told) (runs_in slots) →
-    state_of kind order size position opened true hold now ≡ pinned_state s told
-state_pinned s home kind order size position opened pin hold slots now told k is same filling =
+    runs_in now ≡ filled (holes_in slots (places 0 (length slots))) (firsts used) (runs_in slots) →
+    state_of kind order size position opened true hold now ≡ pinned_state s used
+state_pinned s home kind order size position opened pin hold slots now used k is same filling =
     let was : FileState = state_of kind order size position opened pin hold slots in
     ap (λ b. record (state_of kind order size position opened true hold now) { bytes = take size b }) same
-    ∙ ap (λ r. record was { runs = r; pin = true }) (filling ∙ ap (λ hs. filled hs (firsts told) (runs_in slots)) (sym (holes_all was home order size slots k refl refl refl)))
-    ∙ ap (λ t. pinned_state t told) is
+    ∙ ap (λ r. record was { runs = r; pin = true }) (filling ∙ ap (λ hs. filled hs (firsts used) (runs_in slots)) (sym (holes_all was home order size slots k refl refl refl)))
+    ∙ ap (λ t. pinned_state t used) is
 
 -- filled slots hold the same bytes
 pub pinned_keeps : (home : HomeId) (order : Order) (size : ℕ) (slots now : List (Option FolioValue)) → KeepsFile home order size slots → length now ≡ length slots → AreSlots home order (piece_bytes order) now →

@@ -15,7 +15,7 @@ use Rattle.file_folios.proofs.SlotBytes.{fill_same, put_slots}
 use Rattle.file_folios.proofs.SlotRuns.{runs_set}
 
 -- the holes below an index are filled, and the folios that are left fill the rest
-pub record Filling (home : HomeId) (order : Order) (p from count : ℕ) (all : List FolioValue) (old : List (Option FolioValue)) (at left : ℕ) (folios : List FolioValue) (told : List Pfn) (now : List (Option FolioValue)) : Type 0 where
+pub record Filling (home : HomeId) (order : Order) (p from count : ℕ) (all : List FolioValue) (old : List (Option FolioValue)) (at left : ℕ) (folios : List FolioValue) (listed : List Pfn) (now : List (Option FolioValue)) : Type 0 where
   pub place : at + left ≡ from + count
   pub after : from ≤ at
   pub slots : AreSlots home order p now
@@ -23,7 +23,7 @@ pub record Filling (home : HomeId) (order : Order) (p from count : ℕ) (all : L
   pub enough : length folios ≡ length (holes_in now (places at left))
   pub same : all_bytes p now ≡ all_bytes p old
   pub runs : filled (holes_in now (places at left)) (firsts (first_frames folios)) (runs_in now) ≡ filled (holes_in old (places from count)) (firsts (first_frames all)) (runs_in old)
-  pub told_all : told ++ first_frames folios ≡ first_frames all
+  pub runs_all : listed ++ first_frames folios ≡ first_frames all
   pub length_same : length now ≡ length old
   pub there : (i : ℕ) → from ≤ i → i < at → is_hole now i ≡ false
 
@@ -32,9 +32,9 @@ hole_none None h = refl
 hole_none (Some f) h = absurd cc
 
 module _ (home : HomeId) (order : Order) (p from count : ℕ) (all : List FolioValue) (old : List (Option FolioValue)) where
-  pub filling_begins : (folios : List FolioValue) (told : List Pfn) → folios ≡ all → told ≡ [] → AreSlots home order p old → AreBlank home order p all → length all ≡ length (holes_in old (places from count)) →
-      Filling home order p from count all old from count folios told old
-  filling_begins folios told same none slots blank enough = rw (same, none) (record {
+  pub filling_begins : (folios : List FolioValue) (listed : List Pfn) → folios ≡ all → listed ≡ [] → AreSlots home order p old → AreBlank home order p all → length all ≡ length (holes_in old (places from count)) →
+      Filling home order p from count all old from count folios listed old
+  filling_begins folios listed same none slots blank enough = rw (same, none) (record {
     place = refl;
     after = omega arith;
     slots = slots;
@@ -42,12 +42,12 @@ module _ (home : HomeId) (order : Order) (p from count : ℕ) (all : List FolioV
     enough = enough;
     same = refl;
     runs = refl;
-    told_all = refl;
+    runs_all = refl;
     length_same = refl;
     there = λ i le lt. absurd (omega arith);
   })
 
-  module _ (at left : ℕ) (folios : List FolioValue) (told : List Pfn) (now : List (Option FolioValue)) (f : Filling home order p from count all old at left folios told now) (some : 0 < left) where
+  module _ (at left : ℕ) (folios : List FolioValue) (listed : List Pfn) (now : List (Option FolioValue)) (f : Filling home order p from count all old at left folios listed now) (some : 0 < left) where
     there_next : (next : List (Option FolioValue)) → is_hole next at ≡ false → ((i : ℕ) → i < at → is_hole next i ≡ is_hole now i) → (i : ℕ) → from ≤ i → i < at + 1 → is_hole next i ≡ false
     there_next next last before i le lt = by_test (nat_lt i at) refl
       where
@@ -56,7 +56,7 @@ module _ (home : HomeId) (order : Order) (p from count : ℕ) (all : List FolioV
         by_test false e = let here : i ≡ at = grind (arith, nat_tests) in ap (is_hole next) here ∙ last
 
     -- a place that has a folio
-    pub filling_kept : is_hole now at ≡ false → Filling home order p from count all old (at + 1) (left - 1) folios told now
+    pub filling_kept : is_hole now at ≡ false → Filling home order p from count all old (at + 1) (left - 1) folios listed now
     filling_kept is =
         let step : holes_in now (places at left) ≡ holes_in now (places (at + 1) (left - 1)) = next_is_folio now at left some is in
         record {
@@ -67,7 +67,7 @@ module _ (home : HomeId) (order : Order) (p from count : ℕ) (all : List FolioV
           enough = f.enough ∙ ap length step;
           same = f.same;
           runs = ap (λ hs. filled hs (firsts (first_frames folios)) (runs_in now)) (sym step) ∙ f.runs;
-          told_all = f.told_all;
+          runs_all = f.runs_all;
           length_same = f.length_same;
           there = there_next now is (λ i lt. refl);
         }
@@ -77,7 +77,7 @@ module _ (home : HomeId) (order : Order) (p from count : ℕ) (all : List FolioV
     filling_some is = omega (arith, f.enough ∙ ap length (next_is_hole now at left some is))
 
     put_first : (rest : List FolioValue) → folios ≡ rest → is_hole now at ≡ true → at < length now →
-        Filling home order p from count all old (at + 1) (left - 1) (drop 1 rest) (told ++ take 1 (first_frames rest)) (after_fill now at rest)
+        Filling home order p from count all old (at + 1) (left - 1) (drop 1 rest) (listed ++ take 1 (first_frames rest)) (after_fill now at rest)
     put_first [] e is lt = absurd (omega (arith, filling_some is, ap length e))
     put_first (g ∷ rest) e is lt =
         let next : List (Option FolioValue) = slice_set now at (Some g) in
@@ -97,18 +97,18 @@ module _ (home : HomeId) (order : Order) (p from count : ℕ) (all : List FolioV
               ∙ ap (λ hs. filled hs (firsts (first_frames (g ∷ rest))) (runs_in now)) (sym step)
               ∙ ap (λ fs. filled (holes_in now (places at left)) (firsts (first_frames fs)) (runs_in now)) (sym e)
               ∙ f.runs;
-          told_all = append_assoc told (g.first ∷ []) (first_frames rest) ∙ ap (λ fs. told ++ first_frames fs) (sym e) ∙ f.told_all;
+          runs_all = append_assoc listed (g.first ∷ []) (first_frames rest) ∙ ap (λ fs. listed ++ first_frames fs) (sym e) ∙ f.runs_all;
           length_same = length-set now at (Some g) ∙ f.length_same;
           there = there_next next (ap (λ s. not (is_some s)) (get_or-set_same now at (Some g) None lt)) (λ i below. ap (λ s. not (is_some s)) (get_or-set_other now at i (Some g) None (λ s. omega arith)));
         }
 
-    pub filling_put : (rest : List FolioValue) (tell : List Pfn) (next : List (Option FolioValue)) → is_hole now at ≡ true → at < length now →
-        rest ≡ drop 1 folios → tell ≡ told ++ take 1 (first_frames folios) → next ≡ after_fill now at folios →
-        Filling home order p from count all old (at + 1) (left - 1) rest tell next
-    filling_put rest tell next is lt er et en = rw (er, et, en) (put_first folios refl is lt)
+    pub filling_put : (rest : List FolioValue) (longer : List Pfn) (next : List (Option FolioValue)) → is_hole now at ≡ true → at < length now →
+        rest ≡ drop 1 folios → longer ≡ listed ++ take 1 (first_frames folios) → next ≡ after_fill now at folios →
+        Filling home order p from count all old (at + 1) (left - 1) rest longer next
+    filling_put rest longer next is lt er et en = rw (er, et, en) (put_first folios refl is lt)
 
   -- all holes are filled
-  module _ (at left : ℕ) (folios : List FolioValue) (told : List Pfn) (now : List (Option FolioValue)) (f : Filling home order p from count all old at left folios told now) (none : left ≡ 0) where
+  module _ (at left : ℕ) (folios : List FolioValue) (listed : List Pfn) (now : List (Option FolioValue)) (f : Filling home order p from count all old at left folios listed now) (none : left ≡ 0) where
     no_folios : (xs : List FolioValue) → length xs ≡ 0 → xs ≡ []
     no_folios [] h = refl
     no_folios (x ∷ xs) h = absurd (omega arith)
@@ -116,12 +116,12 @@ module _ (home : HomeId) (order : Order) (p from count : ℕ) (all : List FolioV
     pub filled_left : folios ≡ []
     filled_left = no_folios folios (f.enough ∙ ap length (no_holes now at left none))
 
-    pub filled_told : told ≡ first_frames all
-    filled_told = sym (append-nil told) ∙ ap (λ fs. told ++ first_frames fs) (sym filled_left) ∙ f.told_all
+    pub filled_used : listed ≡ first_frames all
+    filled_used = sym (append-nil listed) ∙ ap (λ fs. listed ++ first_frames fs) (sym filled_left) ∙ f.runs_all
 
-    pub filled_runs : runs_in now ≡ filled (holes_in old (places from count)) (firsts told) (runs_in old)
+    pub filled_runs : runs_in now ≡ filled (holes_in old (places from count)) (firsts listed) (runs_in old)
     filled_runs = ap (λ hs. filled hs (firsts (first_frames folios)) (runs_in now)) (sym (no_holes now at left none)) ∙ f.runs
-        ∙ ap (λ ps. filled (holes_in old (places from count)) (firsts ps) (runs_in old)) (sym filled_told)
+        ∙ ap (λ ps. filled (holes_in old (places from count)) (firsts ps) (runs_in old)) (sym filled_used)
 
     pub filled_there : (i : ℕ) → from ≤ i → i < from + count → is_hole now i ≡ false
     filled_there i le lt = f.there i le (omega (arith, f.place))

@@ -3,13 +3,17 @@ pub mod Cutting
 pub mod Division
 pub mod Extended
 pub mod FileStates
+pub mod FillSteps
 pub mod Filling
 pub mod Given
 pub mod Giving
+pub mod HeldStates
 pub mod Lists
 pub mod Places
 pub mod Ranges
 pub mod Reading
+pub mod Runs
+pub mod Setting
 pub mod Sizes
 pub mod SlotBytes
 pub mod SlotRuns

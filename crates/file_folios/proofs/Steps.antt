@@ -11,13 +11,13 @@ use Rattle.ho_events.specs.declared.reply.Reply.TheVariants.{OkRuns}
 use Rattle.file_folios.specs.FileAnswers.{pinned_state, truncated_state}
 use Rattle.file_folios.proofs.Ranges.{same_self}
 
-pub pin_done : (s g : FileState) (told runs : List Pfn) → s.hold ≡ false → s.pin ≡ false → length told ≡ length (holes s (indexes s)) → g ≡ pinned_state s told → firsts runs ≡ runs_of g →
-    file_step (Some s) (FilePin told) (OkRuns runs) ≡ Some (Some g)
-pin_done s g told runs hold pin count is all =
-    let counted : (length told == length (holes s (indexes s))) ≡ true = grind (arith, nat_tests) in
-    let same : same_bytes (firsts runs) (runs_of (pinned_state s told)) ≡ true = ap (λ r. same_bytes r (runs_of (pinned_state s told))) (all ∙ ap (λ t. runs_of t) is) ∙ same_self (runs_of (pinned_state s told)) in
-    let all_hold : (not s.hold && not s.pin && (length told == length (holes s (indexes s))) && same_bytes (firsts runs) (runs_of (pinned_state s told))) ≡ true = rw (hold, pin, counted, same) refl in
-    ap (λ b. only b (Some (pinned_state s told))) all_hold ∙ ap (λ t. Some (Some t)) (sym is)
+pub pin_done : (s g : FileState) (used runs : List Pfn) → s.hold ≡ false → s.pin ≡ false → length used ≡ length (holes s (indexes s)) → g ≡ pinned_state s used → firsts runs ≡ runs_of g →
+    file_step (Some s) (FilePin used) (OkRuns runs) ≡ Some (Some g)
+pin_done s g used runs hold pin count is all =
+    let counted : (length used == length (holes s (indexes s))) ≡ true = grind (arith, nat_tests) in
+    let same : same_bytes (firsts runs) (runs_of (pinned_state s used)) ≡ true = ap (λ r. same_bytes r (runs_of (pinned_state s used))) (all ∙ ap (λ t. runs_of t) is) ∙ same_self (runs_of (pinned_state s used)) in
+    let all_hold : (not s.hold && not s.pin && (length used == length (holes s (indexes s))) && same_bytes (firsts runs) (runs_of (pinned_state s used))) ≡ true = rw (hold, pin, counted, same) refl in
+    ap (λ b. only b (Some (pinned_state s used))) all_hold ∙ ap (λ t. Some (Some t)) (sym is)
 
 -- a new size
 pub truncate_done : (s g : FileState) (size : ℕ) (runs : List Pfn) → size ≤ FILE_BYTES → (is_frozen s && not (size == length s.bytes)) ≡ false → firsts runs ≡ cut_runs s size → g ≡ truncated_state s size →

@@ -10,9 +10,10 @@ use Rattle.ho_events.specs.File.{FileState, index_bytes, is_too_big, grows_froze
 use Rattle.ho_events.specs.declared.reply.Reply.{Reply}
 use Rattle.ho_events.specs.declared.reply.Reply.TheVariants.{Ok, OkBytes, PastEnd, NoFramesOf, TooBig, SizeFrozen, OkRuns, NotFinished, AlreadyPinned}
 use Rattle.file_folios.specs.Slots.{AreBlank}
+use Rattle.file_folios.specs.FileFoliosValues.{FileFoliosValue}
 use Rattle.file_folios.specs.declared.facts.Facts.{Facts}
 
--- what a file's facts tell of its state
+-- the facts of a state
 abbrev pub facts_of : FileState → Facts
 facts_of f = record {
   kind = f.kind;
@@ -31,6 +32,11 @@ AreFillsOf home order folios = AreBlank home (record { 0 = order }) (PAGE_BYTES 
 -- how many more indexes a file needs that reaches to an end
 abbrev pub more_indexes : FileState → ℕ → ℕ
 more_indexes f end = pieces (max (length f.bytes) end) (index_bytes f) - pieces (length f.bytes) (index_bytes f)
+
+-- for how many indexes a file has memory: those below its size, and those that there is room for. What changes the size
+-- leaves it as large at least, so the room falls by the new indexes at most
+abbrev pub memory_of : FileFoliosValue → ℕ
+memory_of f = pieces (length f.state.bytes) (index_bytes f.state) + f.room
 
 -- what a write is answered that has so many folios for the holes: `TooBig` where it ends past the greatest size; else
 -- `SizeFrozen` where it would change a size that can't change; else `NoFramesOf` with the number of touched holes where
@@ -81,7 +87,7 @@ folios_of f home = map (λ run. folio_at f home run) (finmap.entries f.runs)
 
 -- the state with all holes filled, and pinned
 abbrev pub pinned_state : FileState → List Pfn → FileState
-pinned_state f told = record f { runs = filled (holes f (indexes f)) (firsts told) f.runs; pin = true }
+pinned_state f used = record f { runs = filled (holes f (indexes f)) (firsts used) f.runs; pin = true }
 
 -- what pinning is answered that has so many folios for the holes: `NotFinished` where an incoming session has the file;
 -- else `AlreadyPinned` where an outgoing one has it; else `NoFramesOf` with the number of holes where there are some and

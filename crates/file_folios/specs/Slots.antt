@@ -5,7 +5,7 @@ use Rattle.std.specs.Ordering.{nat_cmp}
 use Rattle.std.specs.FinMap as finmap
 use Rattle.ho_base.specs.declared.numbers.Order.{Order}
 use Rattle.phys_frames.specs.Homes.{HomeId}
-use Rattle.phys_frames.specs.Memory.{FolioValue, Memory, with_bytes, with_folio}
+use Rattle.phys_frames.specs.Memory.{FolioValue, Memory, RunOut, with_bytes, with_folio}
 
 -- the n indexes from i on
 unfoldable pub places : ℕ → ℕ → List ℕ
@@ -89,6 +89,11 @@ zeros_from f at = with_bytes f (take at f.bytes ++ replicate (length f.bytes - a
 unfoldable pub with_folios : Memory → List FolioValue → Memory
 with_folios m [] = m
 with_folios m (folio ∷ folios) = with_folios (with_folio m folio) folios
+
+-- each frame of the folios is out
+abbrev pub AreOut : Memory → List FolioValue → Type 0
+AreOut m [] = Unit {0}
+AreOut m (folio ∷ folios) = RunOut m folio.first folio.order × AreOut m folios
 
 abbrev pub given_home : Memory → Option FolioValue → Memory
 given_home m None = m

@@ -1,4 +1,4 @@
-//! What is told of a file.
+//! The facts of a file.
 
 use ho_base::numbers::{Kind, Order};
 

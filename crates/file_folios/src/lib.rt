@@ -3,8 +3,11 @@
 
 mod facts;
 mod file;
+mod holding;
+mod same_byte;
 mod sized;
 mod slots;
+mod whole;
 
 pub use facts::Facts;
 pub use file::FileFolios;

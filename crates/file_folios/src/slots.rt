@@ -6,7 +6,7 @@ ghost use Rattle.ho_events.specs.Lists.{pieces};
 ghost use Rattle.ho_events.specs.Lists.{firsts};
 ghost use Rattle.ho_events.specs.File.{filled};
 ghost use Rattle.phys_frames.specs.Memory.{with_bytes, written, first_frames};
-ghost use Rattle.file_folios.specs.Slots.{places, slot_at, is_hole, holes_in, runs_in, all_bytes, slot_bytes, after_fill, folios_in, slot_list, given_home, with_folios, AreSlots, AreBlank};
+ghost use Rattle.file_folios.specs.Slots.{places, slot_at, is_hole, holes_in, runs_in, all_bytes, slot_bytes, after_fill, folios_in, slot_list, given_home, with_folios, AreOut, AreSlots, AreBlank};
 
 use ho_base::numbers::{Order, Pfn};
 use phys_frames::{Folio, Frames, Home};
@@ -150,7 +150,7 @@ fn put_in(slots: &mut Vec<Option<Folio>>, at: u32, folio: Folio)
     }
 }
 
-/// Puts one folio of zeros into each hole among some indexes in a row, in rising index, and tells the frames at which
+/// Puts one folio of zeros into each hole among some indexes in a row, in rising index, and reports the frames at which
 /// they begin.
 pub(crate) fn fill_holes(
     slots: &mut Vec<Option<Folio>>,
@@ -249,7 +249,7 @@ pub(crate) fn read_range(
     }
 }
 
-/// Takes the folio at an index out, where there is one, and tells the frame at which it begins.
+/// Takes the folio at an index out, where there is one, and reports the frame at which it begins.
 fn take_one(slots: &mut Vec<Option<Folio>>, at: usize, runs: &mut Vec<Pfn>, given: &mut Vec<Folio>)
     requires within { at < vec_len slots.old }
     requires runs_room { vec_len runs.old + length (slot_list (slot_at slots.old.items at)) ≤ vec_capacity runs.old }
@@ -273,7 +273,7 @@ fn take_one(slots: &mut Vec<Option<Folio>>, at: usize, runs: &mut Vec<Pfn>, give
     }
 }
 
-/// Takes the folios from an index on out, and tells the frames at which they begin.
+/// Takes the folios from an index on out, and reports the frames at which they begin.
 fn take_out(
     slots: &mut Vec<Option<Folio>>,
     from: usize,
@@ -321,7 +321,7 @@ fn pop_holes(slots: &mut Vec<Option<Folio>>, count: usize)
     }
 }
 
-/// Takes the indexes from a number on away, with their folios in rising index, and tells the frames at which these begin.
+/// Takes the indexes from a number on away, with their folios in rising index, and reports the frames at which these begin.
 pub(crate) fn cut(
     slots: &mut Vec<Option<Folio>>,
     count: usize,
@@ -371,6 +371,7 @@ fn give_one(slots: &mut Vec<Option<Folio>>, at: usize, frames: &mut Frames)
     requires of_home { MatchOption (slot_at slots.old.items at) (Unit {0}) (λ f. f.home ≡ frames.old.home) }
     ensures slots { slots.new.items ≡ slice_set slots.old.items at None }
     ensures frames { frames.new ≡ given_home frames.old (slot_at slots.old.items at) }
+    ensures were_out { AreOut frames.old (slot_list (slot_at slots.old.items at)) }
     ensures count { vec_len slots.new ≡ vec_len slots.old }
 {
     match slots[at].take() {
@@ -390,6 +391,7 @@ pub(crate) fn give_all(
     requires slots { AreSlots home.now order piece slots.old.items }
     requires home { home.now ≡ frames.old.home }
     ensures frames { frames.new ≡ with_folios frames.old (folios_in slots.old.items) }
+    ensures were_out { AreOut frames.old (folios_in slots.old.items) }
     ensures slots { slots.new.items ≡ [] }
 {
     let mut at = 0;

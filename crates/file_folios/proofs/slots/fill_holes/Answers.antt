@@ -1,7 +1,7 @@
 use Rattle.std.proofs.Common.{◌≡◌, ◌<◌, true, false, length, reverse, vec_len, refl, ap, sym, ◌∙◌, arith}
 use Rattle.std.proofs.lemmas.List.{length-reverse}
 use Rattle.file_folios.specs.Slots.{is_hole}
-use Rattle.file_folios.proofs.Filling.{filling_begins, filling_some, filling_kept, filling_put, filled_left, filled_told, filled_runs, turned_twice, turned_none}
+use Rattle.file_folios.proofs.Filling.{filling_begins, filling_some, filling_kept, filling_put, filled_left, filled_used, filled_runs, turned_twice, turned_none}
 use Rattle.file_folios.proofs.slots.fill_holes.Goals.{then-is_hole_at, else-is_hole_at}
 use Rattle.file_folios.proofs.slots.fill_holes.Goals as goal
 
@@ -53,7 +53,7 @@ returns-clause-runs c =
 
 pub returns-clause-used : goal.returns-clause-used
 returns-clause-used c =
-    filled_told c.args.home.now c.args.order c.args.piece c.args.from c.args.count c.args.fills.now.items c.args.slots.now.items
+    filled_used c.args.home.now c.args.order c.args.piece c.args.from c.args.count c.args.fills.now.items c.args.slots.now.items
     c.loop-left.at c.loop-left.left (reverse c.loop-left.fills.items) c.loop-left.runs.items c.loop-left.slots.items c.loop-left.invariant.0 (omega arith)
 
 pub returns-clause-left : goal.returns-clause-left

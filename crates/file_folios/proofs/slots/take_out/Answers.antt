@@ -1,5 +1,5 @@
 use Rattle.std.proofs.Common.{◌<◌, length, ◌∙◌, arith}
-use Rattle.file_folios.proofs.Cutting.{taking_more, next_fits, rest_fits, taken_told, taken_given}
+use Rattle.file_folios.proofs.Cutting.{taking_more, next_fits, rest_fits, taken_runs, taken_given}
 use Rattle.file_folios.proofs.slots.take_out.Goals as goal
 
 pub take_one-requires-clause-runs_room : goal.take_one-requires-clause-runs_room
@@ -33,7 +33,7 @@ loop-at-preserved c =
 
 pub returns-clause-runs : goal.returns-clause-runs
 returns-clause-runs c =
-    taken_told c.args.from c.args.slots.now.items c.args.runs.now.items c.args.given.now.items c.loop-at.at c.loop-at.slots.items c.loop-at.runs.items c.loop-at.given.items c.loop-at.invariant.0 (omega (arith, c.loop-at.slots.ok, c.loop-at-test.false))
+    taken_runs c.args.from c.args.slots.now.items c.args.runs.now.items c.args.given.now.items c.loop-at.at c.loop-at.slots.items c.loop-at.runs.items c.loop-at.given.items c.loop-at.invariant.0 (omega (arith, c.loop-at.slots.ok, c.loop-at-test.false))
 
 pub returns-clause-given : goal.returns-clause-given
 returns-clause-given c =

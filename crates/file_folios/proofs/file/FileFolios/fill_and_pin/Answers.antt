@@ -31,8 +31,8 @@ returns-clause-state c =
     (subst (λ p. all_bytes p c.fill_holes.new.slots.items ≡ all_bytes p c.self.inside.slots.items) c.piece_of-piece.ensures.value c.fill_holes.ensures.bytes)
     (subst (λ n. runs_in c.fill_holes.new.slots.items ≡ filled (holes_in c.self.inside.slots.items (places 0 n)) (firsts c.fill_holes.new.runs.items) (runs_in c.self.inside.slots.items)) (sym long) c.fill_holes.ensures.runs)
 
-pub returns-clause-told : goal.returns-clause-told
-returns-clause-told c =
+pub returns-clause-used_count : goal.returns-clause-used_count
+returns-clause-used_count c =
     let long : length c.args.fills.now.items ≡ vec_len c.args.fills.now = omega (arith, c.args.fills.now.ok) in
     ap length c.fill_holes.ensures.used ∙ length-map c.args.fills.now.items (λ f. f.first) ∙ long ∙ c.requires.count
 
