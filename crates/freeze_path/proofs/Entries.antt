@@ -1,8 +1,7 @@
 -- The entries of a kexec, and what they leave of a kernel.
-use Rattle.std.proofs.Common.{◌≡◌, ◌≢◌, ℕ, ◌+◌, ◌<◌, ◌≤◌, ◌^◌, Bool, true, false, cond, List, [], ◌∷◌, ◌++◌, map, length, refl, ap, sym, ◌∙◌, subst, arith, is_some, IsTrue, inl, inr}
-use Rattle.std.specs.Prelude.{Option, None, Some, option_map, unwrap_or, ◌==◌, max}
+use Rattle.std.proofs.Common.{◌≡◌, ℕ, Bool, true, false, cond, List, [], ◌∷◌, ◌++◌, refl, ap, sym, ◌∙◌, subst, is_some, IsTrue}
+use Rattle.std.specs.Prelude.{Option, None, Some, option_map, unwrap_or, ◌==◌}
 use Rattle.std.proofs.lemmas.List.{append-nil}
-use Rattle.std.proofs.lemmas.Bool.{eqb-true}
 use Rattle.ho_base.specs.Objects.{pool_no}
 use Rattle.ho_base.specs.declared.numbers.Pfn.{Pfn}
 use Rattle.ho_events.specs.declared.entry.Entry.{Entry}
@@ -11,21 +10,21 @@ use Rattle.ho_events.specs.declared.event.Event.TheVariants.{PoolTake}
 use Rattle.ho_events.specs.declared.reply.Reply.{Reply}
 use Rattle.ho_events.specs.declared.reply.Reply.TheVariants.{Got}
 use Rattle.ho_events.specs.declared.slip.At.{At}
-use Rattle.ho_events.specs.History.{on, run_from, then_entry, pool_from, last_stamp}
+use Rattle.ho_events.specs.History.{on, run_from, then_entry}
 use Rattle.ho_events.specs.Lists.{only, firsts}
 use Rattle.ho_events.specs.Pool.{PoolState, pool_step, can_take, own}
 use Rattle.ho_world.specs.Acts.{single}
-use Rattle.ho_world.specs.Logs.{Deed, AreDone, deed_at, end_with, entry_of, grown, paired_on}
+use Rattle.ho_world.specs.Logs.{AreDone, deed_at, end_with, entry_of, paired_on}
 use Rattle.ho_world.specs.World.{State, PoolIn, step, run}
 use Rattle.pool_core.specs.PoolValues.{PoolValue}
 use Rattle.machine_core.specs.declared.object.Object as object
 use Rattle.machine_core.specs.declared.object.Object.TheVariants.{Pool}
 use Rattle.machine_core.specs.Kernels.{KernelValue, object_at, start_in, history_in, starts_in, histories_in, IsRunAt}
-use Rattle.machine_core.specs.Objects.{Start, start_of, history_of}
+use Rattle.machine_core.specs.Objects.{Start, start_of}
 use Rattle.machine_core.specs.Worlds.{state_of, states_in}
 use Rattle.kernel_carried.proofs.States.{runs_alike}
 use Rattle.freeze_path.specs.Freezes.{IsStill}
-use Rattle.freeze_path.specs.Ready.{HasPool, DidDeeds}
+use Rattle.freeze_path.specs.Ready.{HasPool}
 
 -- two entries of one command: an event of an object, and the end
 pub record AreTwo (at : At) (n : ℕ) (event : Event) (reply end_reply : Reply) (es : List Entry) : Type 0 where

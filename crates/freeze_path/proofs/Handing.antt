@@ -1,20 +1,16 @@
 -- What a kernel's end hands on.
-use Rattle.std.proofs.Common.{◌≡◌, ℕ, ◌<◌, ◌≤◌, List, [], ◌∷◌, ◌++◌, length, take, drop, map, refl, ap, sym, ◌∙◌, subst, arith}
-use Rattle.std.specs.Prelude.{Option, None, Some, slice_index_or, slice_index}
+use Rattle.std.proofs.Common.{◌≡◌, ℕ, ◌≤◌, List, [], ◌∷◌, ◌++◌, length, take, drop, map, refl, ap, sym, ◌∙◌, subst, arith}
+use Rattle.std.specs.Prelude.{None, Some, slice_index_or, slice_index}
 use Rattle.std.specs.List.{All}
 use Rattle.std.proofs.lemmas.List.{append-nil, drop_all}
 use Rattle.std.proofs.Math.Seq.{take-length}
-use Rattle.std.proofs.lemmas.List.Elements.{All-nil, All-cons, All-head, All-tail}
 use Rattle.ho_base.specs.declared.numbers.Kind.TheVariants.{Memfd}
-use Rattle.ho_base.specs.declared.numbers.Pfn.{Pfn}
-use Rattle.ho_events.specs.File.{FileState}
 use Rattle.ho_world.specs.Frozen.{carried_files, frozen}
-use Rattle.ho_world.specs.World.{World, FileIn}
-use Rattle.memfd_file.specs.Files.{page_of as page_bytes_of}
+use Rattle.ho_world.specs.World.{World}
 use Rattle.phys_frames.specs.Memory.{Memory, FolioValue, page_at}
 use Rattle.machine_core.specs.Gathered.{HoldsFiles}
 use Rattle.machine_core.specs.Kernels.{KernelValue}
-use Rattle.machine_core.specs.Worlds.{IsWorldOf, states_in}
+use Rattle.machine_core.specs.Worlds.{IsWorldOf}
 use Rattle.record_frames.specs.Carries.{HavePages, Carries}
 use Rattle.record_frames.specs.Kept.{bound_pages, devices}
 use Rattle.record_frames.specs.Ram.{Ram}
@@ -23,7 +19,7 @@ use Rattle.record_frames.specs.State.{bound_among, state_in}
 use Rattle.record_frames.specs.Writing.{frames_of}
 use Rattle.record_frames.specs.declared.carried.CarriedBound.{CarriedBound}
 use Rattle.kho_writer.specs.Folios.{HoldFolios}
-use Rattle.kernel_carried.specs.Gathered.{HoldsFilesIn, HoldsPage}
+use Rattle.kernel_carried.specs.Gathered.{HoldsFilesIn}
 use Rattle.freeze_path.specs.Freezes.{IsOfKernel}
 use Rattle.freeze_path.specs.declared.freezing.Frozen.{Frozen}
 

@@ -1,8 +1,11 @@
 pub mod Entries
 pub mod Handing
+pub mod Likeness
+pub mod Limits
 pub mod Owned
-pub mod PageSteps
+pub mod PoolShape
 pub mod Reached
 pub mod Results
 pub mod Room
+pub mod SoundPages
 pub mod TakeSteps

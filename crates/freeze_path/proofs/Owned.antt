@@ -1,6 +1,6 @@
 -- Which frames are owned after a take.
-use Rattle.std.proofs.Common.{◌≡◌, ℕ, ◌+◌, ◌-◌, ◌%◌, ◌^◌, ◌<◌, Bool, true, false, cond, eqb, List, [], ◌∷◌, length, map, refl, sym, ap, subst, ◌∙◌, arith, inl, inr, suc}
-use Rattle.std.specs.Prelude.{Option, None, Some, ◌⊎◌, ◌==◌, ◌||◌, slice_index_or}
+use Rattle.std.proofs.Common.{◌≡◌, ℕ, ◌<◌, Bool, true, false, cond, List, [], ◌∷◌, length, map, refl, sym, ap, ◌∙◌, arith, inl, inr, suc}
+use Rattle.std.specs.Prelude.{Some, ◌⊎◌, ◌==◌, ◌||◌, slice_index_or}
 use Rattle.std.specs.List.{list_any}
 use Rattle.std.specs.Cmp.{nat_cmp_total, unsigned_tied}
 use Rattle.std.specs.Ordering.{nat_cmp, eq_by_cmp}
@@ -27,7 +27,7 @@ any_weaker f g h (x ∷ xs) is = go (any_weaker f g h xs) (f x) refl is
     go rest true e k = left (g x) (list_any g xs) (h x e)
     go rest false e k = right (g x) (list_any g xs) (rest k)
 
-starts_here : (p : ℕ) → run_start 0 p ≡ p
+pub starts_here : (p : ℕ) → run_start 0 p ≡ p
 starts_here p = omega arith
 
 clash : (b : Bool) → b ≡ true → b ≡ false → ⊥

@@ -1,23 +1,24 @@
 -- A kernel after what agent 0 did on it by itself.
-use Rattle.std.proofs.Common.{◌≡◌, ℕ, ◌+◌, ◌<◌, ◌≤◌, nat_le, max, List, [], ◌∷◌, ◌++◌, map, refl, ap, sym, ◌∙◌, subst, IsTrue}
+use Rattle.std.proofs.Common.{◌≡◌, ℕ, ◌+◌, ◌<◌, ◌≤◌, nat_le, max, List, [], ◌∷◌, ◌++◌, map, refl, ap, sym, ◌∙◌, subst, arith, IsTrue, ◌^◌}
 use Rattle.std.specs.Prelude.{Option, None, Some, Bool, true, false}
 use Rattle.std.specs.Bool.{MatchBool}
 use Rattle.std.specs.List.{list_all}
+use Rattle.std.proofs.lemmas.Bool.{and_parts, leb-true}
 use Rattle.std.proofs.lemmas.List.{append-nil}
+use Rattle.ho_base.specs.Objects.{pool_no}
 use Rattle.ho_events.specs.declared.entry.Entry.{Entry}
 use Rattle.ho_events.specs.declared.reply.Reply.{Reply}
 use Rattle.ho_events.specs.declared.slip.At.{At}
-use Rattle.ho_events.specs.History.{on, last_stamp}
+use Rattle.ho_events.specs.History.{on, last_stamp, last_stamp_from}
 use Rattle.ho_world.specs.Logs.{Deed, Paired, end_with, AreDone, grown, paired_on}
 use Rattle.ho_world.specs.Sequences.{Labels}
 use Rattle.ho_world.specs.World.{State}
 use Rattle.machine_core.specs.Agents.{Agent, Anchor, begun, state_in}
-use Rattle.machine_core.specs.Kernels.{KernelValue, starts_in, begun_in, histories_in, IsRunAt}
-use Rattle.machine_core.specs.Objects.{Start}
+use Rattle.machine_core.specs.Kernels.{KernelValue, starts_in, begun_in, histories_in, IsRunAt, AreUpTo}
 use Rattle.machine_core.specs.Plain.{anchor_of}
 use Rattle.machine_core.specs.Turns.{IsReady, TellsMore, Goes}
 use Rattle.freeze_path.specs.Freezes.{IsStill}
-use Rattle.freeze_path.specs.Ready.{DidDeeds, TookFrames, TookOn, EndedFirst, got_deeds, few_deeds}
+use Rattle.freeze_path.specs.Ready.{DidDeeds, IsToldEarly, TookFrames, TookOn, EndedFirst, got_deeds, few_deeds}
 use Rattle.freeze_path.specs.declared.taking.Took.{Took}
 use Rattle.freeze_path.specs.declared.taking.Took.TheVariants as took
 use Rattle.luo_calls.proofs.Steps.{goes_none}
@@ -48,6 +49,20 @@ told_after made f (Some g) t h is tells same n =
 
     same_of : (h g : ℕ → List Entry) → ◌≡◌ {A = Option (ℕ → List Entry)} (Some h) (Some g) → h ≡ g
     same_of h g e = ap (or_this h) e
+
+last_from : (t b : ℕ) (es : List Entry) → t ≤ b → IsTrue (list_all (λ e. nat_le e.stamp b) es) → last_stamp_from t es ≤ b
+unfolding last_stamp_from
+last_from t b [] low h = low
+last_from t b (e ∷ es) low h =
+    let hs = and_parts (nat_le e.stamp b) (list_all (λ (e : Entry). nat_le e.stamp b) es) h in last_from e.stamp b es (leb-true e.stamp b hs.0) hs.1
+
+-- the pool's last stamp isn't too great for two entries more, where the greatest one isn't
+pub told_early : (kernel k1 : KernelValue) (base : ℕ) (told : Option (ℕ → List Entry)) → k1 ≡ record kernel { labels = [] } → told ≡ Some (histories_in k1.objects) → base ≡ kernel.base
+    → ((n : ℕ) → AreUpTo base (histories_in kernel.objects n)) → kernel.base + 1 < 2 ^ 63 → IsToldEarly told
+told_early kernel k1 base told is t b up early =
+    let low : last_stamp (histories_in k1.objects pool_no) ≤ base =
+    subst (λ (k : KernelValue). last_stamp (histories_in k.objects pool_no) ≤ base) (sym is) (last_from 0 base (histories_in kernel.objects pool_no) (omega arith) (up pool_no)) in
+    subst IsToldEarly (sym t) (omega (arith, low, b, early))
 
 -- agent 0 worked by itself on the kernel, whose labels were taken out before and put in afterwards
 pub record Ran (kernel k1 k2 k3 : KernelValue) (a a' : Agent) (es : List Entry) (labels : List Labels) : Type 0 where
@@ -128,19 +143,16 @@ pub hands_stay : (count : ℕ) (at : At) (a a' : Agent) (t : Took) → TookFrame
 hands_stay count at a a' (took.Got runs) h = h.1.hands
 hands_stay count at a a' took.TooFew h = h.1.hands
 hands_stay count at a a' took.Memory h = h.hands
-hands_stay count at a a' took.Late h = h.hands
 
 pub took_on : (kernel k1 k2 k3 : KernelValue) (a a' : Agent) (es : List Entry) (labels : List Labels) (count : ℕ) (at : At) (t : Took) → Ran kernel k1 k2 k3 a a' es labels → TookFrames count at a a' t → TookOn kernel at count es t
 took_on kernel k1 k2 k3 a a' es labels count at (took.Got runs) ran h = did kernel k1 k2 k3 a a' es (got_deeds count runs.value) at h.0 labels ran h.1
 took_on kernel k1 k2 k3 a a' es labels count at took.TooFew ran h = did kernel k1 k2 k3 a a' es (few_deeds count) at h.0 labels ran h.1
 took_on kernel k1 k2 k3 a a' es labels count at took.Memory ran h = no_entries a a' at at es ran.empty h ran.entries
-took_on kernel k1 k2 k3 a a' es labels count at took.Late ran h = no_entries a a' at at es ran.empty h ran.entries
 
 pub took_still : (kernel k1 k2 k3 : KernelValue) (a a' : Agent) (es : List Entry) (labels : List Labels) (count : ℕ) (at : At) (t : Took) → Ran kernel k1 k2 k3 a a' es labels → TookFrames count at a a' t → IsStill kernel k3 es
 took_still kernel k1 k2 k3 a a' es labels count at (took.Got runs) ran h = still kernel k1 k2 k3 a a' es (got_deeds count runs.value) at h.0 labels ran h.1
 took_still kernel k1 k2 k3 a a' es labels count at took.TooFew ran h = still kernel k1 k2 k3 a a' es (few_deeds count) at h.0 labels ran h.1
 took_still kernel k1 k2 k3 a a' es labels count at took.Memory ran h = still kernel k1 k2 k3 a a' es [] at at labels ran h
-took_still kernel k1 k2 k3 a a' es labels count at took.Late ran h = still kernel k1 k2 k3 a a' es [] at at labels ran h
 
 pub ended_hands : (b : Bool) (reply : Reply) (at : At) (a a' : Agent) → EndedFirst b reply at a a' → a'.hands ≡ a.hands
 ended_hands true reply at a a' h = h.1.hands

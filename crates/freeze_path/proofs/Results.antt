@@ -1,11 +1,10 @@
 -- How freezing a kernel came out.
-use Rattle.std.proofs.Common.{◌≡◌, ◌≢◌, ℕ, ◌+◌, ◌<◌, ◌≤◌, ◌^◌, Bool, true, false, cond, nat_lt, List, [], ◌∷◌, ◌++◌, map, length, refl, ap, sym, ◌∙◌, subst, arith, IsTrue, inl, inr, get_or}
+use Rattle.std.proofs.Common.{◌≡◌, ◌≢◌, ℕ, ◌+◌, ◌<◌, ◌≤◌, Bool, true, false, cond, nat_lt, List, [], ◌∷◌, map, length, refl, ap, sym, ◌∙◌, subst, arith, inl, inr}
 use Rattle.std.specs.Prelude.{Option, None, Some, ◌==◌, ◌⊎◌, slice_index_or}
-use Rattle.std.specs.List.{All, AllByRecursion, Contains, list_any}
-use Rattle.std.specs.FinMap as finmap
+use Rattle.std.specs.List.{All, list_any}
 use Rattle.std.proofs.lemmas.Bool.Decides.{nat_tests}
 use Rattle.std.proofs.lemmas.Bool.{eqb-true}
-use Rattle.std.proofs.lemmas.List.{get_or_default, length-map}
+use Rattle.std.proofs.lemmas.List.{get_or_default}
 use Rattle.std.proofs.lemmas.List.Elements.{All-nil, All-cons, All-head, All-tail}
 use Rattle.ho_base.specs.BitmapCount.{chunk_frames}
 use Rattle.ho_base.specs.Objects.{pool_no}
@@ -13,20 +12,18 @@ use Rattle.ho_base.specs.declared.numbers.Blob.{Blob}
 use Rattle.ho_base.specs.declared.numbers.Pfn.{Pfn}
 use Rattle.ho_events.specs.declared.entry.Entry.{Entry}
 use Rattle.ho_events.specs.declared.event.Event.TheVariants.{PoolTake}
-use Rattle.ho_events.specs.declared.reply.Reply.{Reply}
 use Rattle.ho_events.specs.declared.reply.Reply.TheVariants.{Ok, Got, ScratchSmall}
 use Rattle.ho_events.specs.declared.slip.At.{At}
 use Rattle.ho_events.specs.File.{FileState}
-use Rattle.ho_events.specs.History.{on}
 use Rattle.ho_events.specs.Lists.{firsts}
-use Rattle.ho_events.specs.Pool.{PoolState, can_take, is_owned, own}
+use Rattle.ho_events.specs.Pool.{PoolState, is_owned}
 use Rattle.ho_world.specs.Acts.{single}
 use Rattle.ho_world.specs.Frozen.{carried_files, frozen, need, preserved_devices, scratch_need, scratch_have}
-use Rattle.ho_world.specs.Logs.{AreDone, end_with}
-use Rattle.ho_world.specs.Sequences.Kexecs.{TooSmall, NoRoom, KernelEnds, kexec_acts, fitting_acts}
-use Rattle.ho_world.specs.World.{State, World, PoolIn, FileIn, pool_in, pool_at, handler_at}
+use Rattle.ho_world.specs.Logs.{end_with}
+use Rattle.ho_world.specs.Sequences.Kexecs.{NoRoom, KernelEnds, fitting_acts}
+use Rattle.ho_world.specs.World.{State, World, PoolIn, FileIn, pool_in, pool_at}
 use Rattle.phys_frames.specs.Homes.{HomeId}
-use Rattle.phys_frames.specs.Memory.{FolioValue, AreOf, first_frames, zeroed, with_bytes}
+use Rattle.phys_frames.specs.Memory.{FolioValue, AreOf, zeroed, with_bytes}
 use Rattle.machine_core.specs.Gathered.{BeginsAt, IsPageOfFile, IsAccounted}
 use Rattle.machine_core.specs.Kernels.{KernelValue, begun_in, histories_in}
 use Rattle.machine_core.specs.Worlds.{states_in, IsWorldOf}
@@ -35,7 +32,7 @@ use Rattle.record_frames.specs.State.{state_in}
 use Rattle.record_frames.specs.declared.carried.Carried.{Carried}
 use Rattle.kho_writer.specs.Folios.{CarryIt, HasRoom, OtherBytes, front_count}
 use Rattle.kho_writer.proofs.Counts.{left_over}
-use Rattle.kernel_carried.specs.Gathered.{Agrees, HoldsFilesIn, IsGathered}
+use Rattle.kernel_carried.specs.Gathered.{Agrees, HoldsFilesIn}
 use Rattle.kernel_carried.proofs.Laws.{OnePage, carried_is, needs_same, one_page, all_single}
 use Rattle.freeze_path.specs.Freezes.{IsStill, DidKexec, IsOfKernel, FrozeAll, FoundSmall, FoundFew}
 use Rattle.freeze_path.specs.Ready.{HasPool, IsReady, DidDeeds, got_deeds, few_deeds}

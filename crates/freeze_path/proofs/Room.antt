@@ -1,8 +1,8 @@
 -- Frames that were taken have room for what is carried.
-use Rattle.std.proofs.Common.{◌≡◌, ℕ, ◌+◌, ◌%◌, ◌^◌, ◌<◌, ◌≤◌, Bool, true, false, cond, eqb, List, [], ◌∷◌, ◌++◌, Option, Some, None, length, map, take, drop, refl, sym, ap, subst, ◌∙◌, arith, append_assoc}
+use Rattle.std.proofs.Common.{◌≡◌, ℕ, ◌+◌, ◌%◌, Bool, true, false, eqb, List, [], ◌∷◌, ◌++◌, length, map, refl, sym, ap, subst, ◌∙◌, arith, append_assoc}
 use Rattle.std.specs.Prelude.{◌&&◌, ◌||◌, not, nat_lt, nat_le, ◌==◌, IsTrue}
 use Rattle.std.specs.List.{list_all, list_any, flat_map, All}
-use Rattle.std.proofs.lemmas.Bool.{and_parts, and_from, or_left, or_right, leb-true, le-leb, lt-ltb, ltb-true, eq-eqb, eqb-true}
+use Rattle.std.proofs.lemmas.Bool.{and_parts, and_from, or_left, or_right, le-leb, ltb-true, eq-eqb, eqb-true}
 use Rattle.std.proofs.lemmas.Bool.Decides.{nat_tests}
 use Rattle.std.proofs.lemmas.List.{append-nil, length-map, length-take-le, map-append, take-append-drop}
 use Rattle.std.proofs.lemmas.List.Elements.{All-nil, All-cons, All-head, All-tail}
@@ -10,14 +10,12 @@ use Rattle.std.proofs.lemmas.List.Folds.{list_all-append}
 use Rattle.ho_base.specs.BitmapCount.{chunk_frames}
 use Rattle.ho_base.specs.ShapeRule.{area_end, holds, in_scratch}
 use Rattle.ho_base.specs.declared.shape.Area.{Area}
-use Rattle.ho_base.specs.declared.limits.TheConstants.{MAX_ORDER}
 use Rattle.ho_base.specs.declared.numbers.Pfn.{Pfn}
 use Rattle.ho_events.specs.Lists.{are_distinct, firsts, upto}
-use Rattle.ho_events.specs.Pool.{PoolState, can_take, frames_of as frames_of_run, is_free, is_free_run, is_owned}
+use Rattle.ho_events.specs.Pool.{PoolState, can_take, is_free, is_free_run, is_owned}
 use Rattle.phys_frames.specs.Homes.{HomeId}
 use Rattle.phys_frames.specs.Memory.{FolioValue, zeroed}
 use Rattle.folio_bitmaps.specs.Runs.{Run}
-use Rattle.record_frames.specs.Rules.{is_run}
 use Rattle.record_frames.specs.Kept.{devices, bound_frames}
 use Rattle.record_frames.specs.Owners.{single, given}
 use Rattle.record_frames.specs.State.{bound_among}
@@ -48,7 +46,7 @@ pub not_true : (b : Bool) → not b ≡ true → b ≡ false
 not_true true h = absurd cc
 not_true false h = refl
 
-run_ok : (n : ℕ) (areas : List Area) (p : ℕ) → fit n areas p ≡ true → is_run_of n (single p) ≡ true
+pub run_ok : (n : ℕ) (areas : List Area) (p : ℕ) → fit n areas p ≡ true → is_run_of n (single p) ≡ true
 run_ok n areas p h =
     let a = and_parts (nat_lt 0 p && nat_lt p n) (not (in_scratch areas p)) h in
     let b = and_parts (nat_lt 0 p) (nat_lt p n) a.0 in
@@ -183,7 +181,7 @@ free_fit s p h = (and_parts (nat_lt 0 p && nat_lt p s.shape.frames && not (in_sc
 free_loose : (s : PoolState) (p : ℕ) → is_free s p ≡ true → not (is_owned s p) ≡ true
 free_loose s p h = (and_parts (nat_lt 0 p && nat_lt p s.shape.frames && not (in_scratch s.shape.scratch p)) (not (is_owned s p)) h).1
 
-page_fit : (s : PoolState) (p : ℕ) → is_page s p ≡ true → fit s.shape.frames s.shape.scratch p ≡ true
+pub page_fit : (s : PoolState) (p : ℕ) → is_page s p ≡ true → fit s.shape.frames s.shape.scratch p ≡ true
 page_fit s p h = (and_parts (nat_lt 0 p && nat_lt p s.shape.frames && not (in_scratch s.shape.scratch p)) (is_owned s p) h).0
 
 page_owned : (s : PoolState) (p : ℕ) → is_page s p ≡ true → is_owned s p ≡ true

@@ -1,5 +1,5 @@
 -- The turns of a kexec.
-use Rattle.std.proofs.Common.{◌≡◌, ℕ, ◌+◌, ◌<◌, ◌≤◌, ◌^◌, max, List, [], ◌∷◌, ◌++◌, map, refl, sym, ap, subst, ◌∙◌, arith}
+use Rattle.std.proofs.Common.{◌≡◌, ℕ, ◌+◌, ◌<◌, ◌≤◌, ◌^◌, List, [], ◌∷◌, map, sym, ap, subst, ◌∙◌, arith}
 use Rattle.std.specs.Prelude.{Option, None, Some, MatchOption}
 use Rattle.std.specs.declared.snapshot.Snapshot.{Snapshot}
 use Rattle.ho_base.specs.Objects.{pool_no}
@@ -10,20 +10,19 @@ use Rattle.ho_events.specs.declared.slip.At.{At}
 use Rattle.ho_events.specs.declared.event.Event.TheVariants.{PoolTake}
 use Rattle.ho_events.specs.declared.reply.Reply.{Reply}
 use Rattle.ho_events.specs.declared.reply.Reply.TheVariants.{Ok, Got, NoFrames, NoFramesOf}
+use Rattle.ho_events.specs.History.{last_stamp}
 use Rattle.ho_world.specs.Acts.{single}
 use Rattle.ho_world.specs.Logs.{Known, deed_at, end_with}
 use Rattle.phys_frames.specs.Homes.{HomeId}
 use Rattle.phys_frames.specs.Memory.{FolioValue, zeroed}
-use Rattle.machine_core.specs.Agents.{Agent, with_at, took, HasEnded, GaveBack, Entered}
-use Rattle.machine_core.specs.Objects.{known_of}
+use Rattle.machine_core.specs.Agents.{Agent, Found, IsTold, with_at, took, HasEnded, GaveBack}
+use Rattle.machine_core.specs.Objects.{history_of, known_of}
 use Rattle.machine_core.specs.declared.object.Object.{Object}
 use Rattle.machine_core.specs.Turns.{IsReady, Goes}
 use Rattle.luo_calls.specs.Takes.{TookRuns}
 use Rattle.luo_calls.proofs.Chains.{then_goes, ready_after}
 use Rattle.luo_calls.proofs.Steps.{at_same, put_back, goes_none}
-use Rattle.freeze_path.specs.Ready.{TookFrames, folios_of, reply_for, took_by}
-use Rattle.freeze_path.specs.declared.taking.Took.{Took}
-use Rattle.freeze_path.specs.declared.taking.Took.TheVariants as took_as
+use Rattle.freeze_path.specs.Ready.{IsToldEarly, TookFrames, folios_of, reply_for, took_by}
 
 -- the log got more room
 pub only_room : (at : At) (a a0 : Agent) → a0 ≡ record a { room = a0.room } → Goes [] at at a a0
@@ -68,8 +67,13 @@ pub ready_taken : (count : ℕ) (at at1 : At) (a a1 : Agent) (got : Option (Snap
 ready_taken count at at1 a a1 None r h = ready_after (deed_at pool_no [] (PoolTake single count) NoFrames ∷ []) at at1 a a1 r (h [] tt)
 ready_taken count at at1 a a1 (Some runs) r h = ready_after (deed_at pool_no [] (PoolTake single count) (Got runs.value) ∷ []) at at1 a a1 r (h [] tt)
 
-pub same_agent : (at : At) (a : Agent) → Goes [] at at a a
-same_agent at a = goes_none at a a refl refl refl refl refl refl refl
+-- after the pool's last stamp there may be two more, where the told one says so
+pub pool_early : (a a0 : Agent) (o : Object) → a0 ≡ record a { room = a0.room } → Found a0 pool_no o → IsToldEarly a.told → last_stamp (history_of o) + 1 < 2 ^ 63
+pool_early a a0 o room found told = go a0.told (subst IsToldEarly (sym (ap (λ (x : Agent). x.told) room)) told) found.told
+  where
+    go : (t : Option (ℕ → List Entry)) → IsToldEarly t → IsTold t pool_no (history_of o) → last_stamp (history_of o) + 1 < 2 ^ 63
+    go None h k = absurd h
+    go (Some f) h k = subst (λ (es : List Entry). last_stamp es + 1 < 2 ^ 63) (sym k) h
 
 -- with other room first
 pub after_room : (reply : Reply) (at at2 : At) (a a0 a2 : Agent) → a0 ≡ record a { room = a0.room } → Goes (end_with reply ∷ []) at at2 a0 a2 → Goes (end_with reply ∷ []) at at2 a a2

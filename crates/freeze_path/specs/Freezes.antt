@@ -1,5 +1,5 @@
 -- What freezing a kernel comes to.
-use Rattle.std.specs.Prelude.{◌≡◌, ℕ, ◌≤◌, ◌^◌, max, List, [], length, Option, Some}
+use Rattle.std.specs.Prelude.{◌≡◌, ℕ, ◌+◌, ◌≤◌, ◌^◌, max, List, [], length, Some}
 use Rattle.std.specs.List.{All}
 use Rattle.ho_base.specs.declared.numbers.Blob.{Blob}
 use Rattle.ho_base.specs.declared.numbers.Pfn.{Pfn}
@@ -77,10 +77,10 @@ pub record FoundFew (kernel : KernelValue) (at : At) (blob : Blob) (entries : Li
   pub did : DidKexec kernel at blob NoRoom entries
   pub needed_is : (w : World) → IsWorldOf kernel w → needed ≡ need (frozen w)
 
--- the greatest stamp is too great
+-- the greatest stamp is too great for two entries more
 pub record IsLate (kernel : KernelValue) (entries : List Entry) (t : ℕ) : Type 0 where
   pub stamp : t ≡ kernel.base
-  pub late : 2 ^ 63 ≤ t
+  pub late : 2 ^ 63 ≤ t + 1
   pub none : entries ≡ []
 
 abbrev pub Froze : KernelValue → At → Blob → KernelValue → List Entry → Freezing → Type 0
@@ -89,4 +89,3 @@ Froze kernel at blob kernel' entries (came.ScratchSmall needed have) = FoundSmal
 Froze kernel at blob kernel' entries (came.NoFrames needed) = FoundFew kernel at blob entries needed
 Froze kernel at blob kernel' entries (came.Late t) = IsLate kernel entries t
 Froze kernel at blob kernel' entries came.Memory = entries ≡ []
-Froze kernel at blob kernel' entries came.Broken = entries ≡ []

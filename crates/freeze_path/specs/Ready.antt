@@ -1,9 +1,9 @@
 -- What is ready before a kernel is frozen, and how its frames are taken.
-use Rattle.std.specs.Prelude.{◌≡◌, ℕ, ◌<◌, Bool, true, false, not, ◌&&◌, nat_lt, List, [], ◌∷◌, ◌++◌, map, IsTrue, Option, None, Some, slice_index_or}
+use Rattle.std.specs.Prelude.{◌≡◌, ℕ, ◌+◌, ◌^◌, ◌<◌, Bool, true, false, not, ◌&&◌, nat_lt, List, [], ◌∷◌, map, IsTrue, Option, None, Some}
 use Rattle.std.specs.List.{list_all, flat_map}
 use Rattle.std.specs.declared.snapshot.Snapshot.{Snapshot}
 use Rattle.ho_base.specs.Objects.{pool_no}
-use Rattle.ho_base.specs.ShapeRule.{in_scratch}
+use Rattle.ho_base.specs.ShapeRule.{in_scratch, is_layout}
 use Rattle.ho_base.specs.declared.items.Items.{Items}
 use Rattle.ho_base.specs.declared.numbers.Pfn.{Pfn}
 use Rattle.ho_events.specs.Lists.{are_distinct, firsts}
@@ -15,6 +15,7 @@ use Rattle.ho_events.specs.declared.slip.At.{At}
 use Rattle.ho_world.specs.Acts.{single}
 use Rattle.ho_world.specs.Frozen.{need, preserved_devices}
 use Rattle.ho_world.specs.Logs.{Deed, AreDone, deed_at, end_with, paired_on}
+use Rattle.ho_world.specs.Sequences.{Labels}
 use Rattle.ho_world.specs.World.{PoolIn, World}
 use Rattle.phys_frames.specs.Homes.{HomeId}
 use Rattle.phys_frames.specs.Memory.{FolioValue, zeroed}
@@ -23,10 +24,11 @@ use Rattle.machine_core.specs.Gathered.{IsPageOfFile}
 use Rattle.machine_core.specs.declared.object.Object.TheVariants.{Pool}
 use Rattle.machine_core.specs.Kernels.{KernelValue, object_at, begun_in, histories_in}
 use Rattle.pool_core.specs.PoolValues.{PoolValue}
-use Rattle.ho_events.specs.History.{pool_from}
+use Rattle.ho_events.specs.History.{last_stamp, pool_from}
 use Rattle.ho_events.specs.declared.entry.Entry.{Entry}
 use Rattle.machine_core.specs.Turns.{Goes}
-use Rattle.machine_core.specs.Worlds.{states_in}
+use Rattle.machine_core.specs.Worlds.{states_in, IsWorldOf}
+use Rattle.balance_laws.specs.Sound.{Sound}
 use Rattle.record_frames.specs.Ram.{Ram}
 use Rattle.record_frames.specs.State.{state_in}
 use Rattle.record_frames.specs.Writing.{files_in}
@@ -61,13 +63,21 @@ HasPages kernel c = (s : PoolState) → states_in kernel.objects pool_no ≡ Som
 abbrev pub OwnsPages : KernelValue → Type 0
 OwnsPages kernel = (s : PoolState) (p : ℕ) → states_in kernel.objects pool_no ≡ Some (PoolIn s) → p < kernel.shape.frames → is_owned s p ≡ true → IsPageOfFile kernel.objects p
 
--- the kernel's pool is in a state, which has the kernel's shape
+-- a kernel's world is sound with some labels of its agents
+pub record IsSoundKernel (kernel : KernelValue) : Type 0 where
+  pub world : World
+  pub is_world : IsWorldOf kernel world
+  pub labels : ℕ → Labels
+  pub sound : Sound world labels
+
+-- the kernel's pool is in a state, which has the kernel's shape, and this is one
 pub record HasPool (kernel : KernelValue) : Type 0 where
   pub value : PoolValue
   pub at : object_at kernel.objects pool_no ≡ Some (Pool value)
   pub state : PoolState
   pub run : pool_from value.start value.history ≡ Some state
   pub shape : state.shape ≡ kernel.shape
+  pub layout : IsTrue (is_layout kernel.shape.frames kernel.shape.scratch)
 
 -- All is there to freeze a kernel: what is carried is gathered from it and can be carried, its pages are different pages, each owned
 -- frame is a page, no device file is preserved, and the marks and the room are those of what is carried.
@@ -87,7 +97,11 @@ abbrev pub TookFrames : ℕ → At → Agent → Agent → Took → Type 0
 TookFrames count at a a' (took.Got runs) = (at' : At) × Goes (deed_at pool_no [] (PoolTake single count) (Got runs.value) ∷ end_with Ok ∷ []) at at' a a'
 TookFrames count at a a' took.TooFew = (at' : At) × Goes (deed_at pool_no [] (PoolTake single count) NoFrames ∷ end_with (NoFramesOf count) ∷ []) at at' a a'
 TookFrames count at a a' took.Memory = Goes [] at at a a'
-TookFrames count at a a' took.Late = Goes [] at at a a'
+
+-- where histories are told, the pool's has a last stamp after which two entries more may come
+abbrev pub IsToldEarly : Option (ℕ → List Entry) → Type 0
+IsToldEarly None = ⊥
+IsToldEarly (Some f) = last_stamp (f pool_no) + 1 < 2 ^ 63
 
 -- the folios of the frames that were taken
 abbrev pub folios_of : HomeId → Took → List FolioValue
@@ -120,7 +134,6 @@ abbrev pub TookOn : KernelValue → At → ℕ → List Entry → Took → Type 
 TookOn kernel at count entries (took.Got runs) = DidDeeds kernel at (got_deeds count runs.value) entries
 TookOn kernel at count entries took.TooFew = DidDeeds kernel at (few_deeds count) entries
 TookOn kernel at count entries took.Memory = entries ≡ []
-TookOn kernel at count entries took.Late = entries ≡ []
 
 -- the command ended so, or nothing was done
 abbrev pub EndedFirst : Bool → Reply → At → Agent → Agent → Type 0

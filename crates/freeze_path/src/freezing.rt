@@ -1,6 +1,6 @@
 //! A kernel frozen into frames, and handed on.
 
-ghost use Rattle.std.specs.Prelude.{◌≡◌, ◌<◌, ◌≤◌, ◌^◌, ◌∷◌, [], length};
+ghost use Rattle.std.specs.Prelude.{◌≡◌, ◌+◌, ◌<◌, ◌≤◌, ◌^◌, ◌∷◌, [], length};
 ghost use Rattle.std.specs.Bool.{MatchBool};
 ghost use Rattle.std.specs.List.{All};
 ghost use Rattle.ho_base.specs.declared.numbers.Kind.TheVariants.{Memfd};
@@ -12,7 +12,7 @@ ghost use Rattle.machine_core.specs.Worlds.{IsWorldOf};
 ghost use Rattle.record_frames.specs.Carries.{Carries};
 ghost use Rattle.record_frames.specs.Sheeted.{ram_of};
 ghost use Rattle.freeze_path.specs.Freezes.{Froze, IsOfKernel, IsStill};
-ghost use Rattle.freeze_path.specs.Ready.{folios_of, DidDeeds, IsReady, TookOn};
+ghost use Rattle.freeze_path.specs.Ready.{folios_of, DidDeeds, IsReady, IsSoundKernel, TookOn};
 
 use crate::ready::{Ready, has_pool, prepare};
 use crate::taking::{Took, end_first, take_frames};
@@ -27,6 +27,9 @@ use phys_frames::Folio;
 use record_frames::Carried;
 use scratch_area::Handoff;
 use std::alloc::Global;
+
+/// The least greatest stamp that is too great for the two entries of a kexec.
+const LAST: u64 = LATE - 1;
 
 /// What was frozen of a kernel: what is carried, the program of the next kernel, and the folios that carry it, of which
 /// the first is the entry frame. It can't be let go, since the folios can't.
@@ -44,12 +47,10 @@ pub enum Freezing {
     ScratchSmall { need: u32, have: u32 },
     /// Fewer frames are free than the records need.
     NoFrames { need: u32 },
-    /// The greatest stamp of the kernel is too great to go on.
+    /// The greatest stamp of the kernel is too great for two entries more. Nothing was done.
     Late(u64),
     /// Out of memory. Nothing was done.
     Memory,
-    /// The kernel's state can't be carried. Nothing was done.
-    Broken,
 }
 
 /// Takes so many frames of a kernel, and ends the kexec: with Ok, or where too few are free with `NoFrames`. All memory is
@@ -63,6 +64,7 @@ fn take_all(
     requires agent { at.agent.0 ≡ 0 }
     requires kernel { at.kernel ≡ kernel.number }
     requires last { at.last ≡ kernel.base }
+    requires early { kernel.base + 1 < 2 ^ 63 }
     requires some { 1 ≤ need }
     ensures stays { IsStill kernel result.0 result.1.items }
     ensures took { TookOn kernel at need result.1.items result.2 }
@@ -73,6 +75,7 @@ fn take_all(
         return (kernel, entries, Took::Memory, Vec::new(alloc));
     };
     let mut kernel = kernel;
+    let _base = kernel.base();
     let labels = kernel.take_labels(alloc);
     let mut reach = PlainReach::new(alloc, kernel, at.agent);
     let took = take_frames(alloc, &mut reach, at, need, &mut folios);
@@ -163,6 +166,7 @@ fn freeze_ready(
     requires agent { at.agent.0 ≡ 0 }
     requires kernel { at.kernel ≡ kernel.number }
     requires last { at.last ≡ kernel.base }
+    requires early { kernel.base + 1 < 2 ^ 63 }
     requires ready { IsReady kernel ready }
     requires fits { scratch_need kernel.shape blob ≤ scratch_have kernel.shape }
     ensures stays { IsStill kernel result.0 result.1.items }
@@ -184,31 +188,27 @@ fn freeze_ready(
             folios.destroy_empty();
             (kernel, entries, Freezing::Memory)
         }
-        Took::Late => {
-            folios.destroy_empty();
-            (kernel, entries, Freezing::Broken)
-        }
     }
 }
 
-/// Freezes a kernel, at this place in history, for a boot of this program: what a kexec carries of it is written into
-/// frames that are taken from its pool, and its entries are those of the kexec. Files and pages are looked at once, and
-/// each frame; nothing of the files is copied.
+/// Freezes a kernel whose world is sound, at this place in history, for a boot of this program: what a kexec carries of
+/// it is written into frames that are taken from its pool, and its entries are those of the kexec. Files and slots are
+/// looked at; nothing of the files is copied.
 ///
-/// `ScratchSmall` exactly where the program needs more frames than the first scratch area has; `NoFrames` exactly where
-/// fewer frames are free than the records need; `Late` exactly where the greatest stamp has reached 2^63. `Memory` where
-/// memory can't be had, and `Broken` where the state can't be carried, or where the stamps end with the kexec's first
-/// entry: then there is no entry.
+/// `Late` exactly where the greatest stamp is 2^63 - 1 or more, since a kexec may have two entries. Else `ScratchSmall`
+/// exactly where the program needs more frames than the first scratch area has; `NoFrames` exactly where fewer frames are
+/// free than the records need. `Memory` where memory can't be had: then there is no entry.
 pub fn freeze(alloc: Global, kernel: Kernel, at: At, blob: Blob) -> (Kernel, Vec<Entry>, Freezing)
     requires agent { at.agent.0 ≡ 0 }
     requires kernel { at.kernel ≡ kernel.number }
     requires last { at.last ≡ kernel.base }
+    requires sound { IsSoundKernel kernel }
     ensures stays { IsStill kernel result.0 result.1.items }
     ensures came { Froze kernel at blob result.0 result.1.items result.2 }
-    ensures late { 2 ^ 63 ≤ kernel.base → result.2 ≡ Freezing.Late kernel.base }
+    ensures late { 2 ^ 63 ≤ kernel.base + 1 → result.2 ≡ Freezing.Late kernel.base }
 {
     let base = kernel.base();
-    if base >= LATE {
+    if base >= LAST {
         let (kernel, entries) = untouched(alloc, kernel);
         return (kernel, entries, Freezing::Late(base));
     }
@@ -221,13 +221,7 @@ pub fn freeze(alloc: Global, kernel: Kernel, at: At, blob: Blob) -> (Kernel, Vec
             let (kernel, entries) = untouched(alloc, kernel);
             (kernel, entries, Freezing::Memory)
         }
-        Ok(found) => match found {
-            None => {
-                let (kernel, entries) = untouched(alloc, kernel);
-                (kernel, entries, Freezing::Broken)
-            }
-            Some(ready) => freeze_ready(alloc, kernel, at, blob, ready),
-        },
+        Ok(ready) => freeze_ready(alloc, kernel, at, blob, ready),
     }
 }
 

@@ -2,7 +2,6 @@
 #![tactic(auto)]
 
 mod freezing;
-mod pages;
 mod ready;
 mod taking;
 

@@ -1,14 +1,13 @@
 //! What is made ready before a kernel is frozen.
 
-ghost use Rattle.std.specs.Prelude.{◌≡◌, IfOk, IfSome, IsTrue};
+ghost use Rattle.std.specs.Prelude.{◌≡◌, IfOk, IsTrue};
 ghost use Rattle.ho_world.specs.Frozen.{need as frames_needed};
 ghost use Rattle.record_frames.specs.Ram.{Ram};
 ghost use Rattle.record_frames.specs.State.{state_in};
 ghost use Rattle.kho_laws.specs.Carrying.{can_be_carried};
-ghost use Rattle.freeze_path.specs.Ready.{HasPool, IsReady};
+ghost use Rattle.freeze_path.specs.Ready.{HasPool, IsReady, IsSoundKernel};
 
-use crate::pages::{has_pages, owns_pages};
-use carry_checks::{can_carry, tracker_of};
+use carry_checks::tracker_of;
 use folio_bitmaps::Tracker;
 use ho_base::numbers::NoMemory;
 use kernel_carried::{carried_of, has_no_devices};
@@ -27,11 +26,11 @@ pub struct Ready {
     pub need: u32,
 }
 
-/// The kernel's pool is in a state that has the kernel's shape. Nothing is done.
+/// The kernel's pool is in a state that has the kernel's shape, and this is one. Nothing is done.
 pub(crate) fn has_pool(kernel: &Kernel)
     ensures { HasPool kernel.now }
 {
-    let _shape = kernel.pool().shape();
+    let _areas = kernel.pool().shape().scratch();
 }
 
 /// How many frames the records of this take.
@@ -42,33 +41,21 @@ fn frames_for(carried: &Carried) -> u32
     need(carried)
 }
 
-/// All that is there to freeze a kernel. None where it can't be carried: an outgoing name has a slot that isn't one, the
-/// sessions or files break a limit, two files share a page, or an owned frame isn't the page of a file. It looks at each
-/// file and each frame.
-pub(crate) fn prepare(alloc: Global, kernel: &Kernel) -> Result<Option<Ready>, NoMemory>
-    ensures { IfOk result (λ o. IfSome o (IsReady kernel.now)) }
+/// All that is there to freeze a kernel whose world is sound. It looks at each file, and at none of its bytes.
+pub(crate) fn prepare(alloc: Global, kernel: &Kernel) -> Result<Ready, NoMemory>
+    requires sound { IsSoundKernel kernel.now }
+    ensures { IfOk result (IsReady kernel.now) }
 {
-    let Some(carried) = carried_of(alloc, kernel)? else {
-        return Ok(None);
-    };
-    if !can_carry(&carried) {
-        return Ok(None);
-    }
-    if !has_pages(alloc, kernel, &carried)? {
-        return Ok(None);
-    }
-    if !owns_pages(alloc, kernel)? {
-        return Ok(None);
-    }
     has_no_devices(kernel);
     has_pool(kernel);
+    let carried = carried_of(alloc, kernel)?;
     let tracker = tracker_of(alloc, &carried)?;
     let prepared = Prepared::make(alloc, &carried)?;
     let need = frames_for(&carried);
-    Ok(Some(Ready {
+    Ok(Ready {
         carried,
         tracker,
         prepared,
         need,
-    }))
+    })
 }

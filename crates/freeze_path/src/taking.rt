@@ -9,7 +9,7 @@ ghost use Rattle.machine_core.specs.Agents.{Agent};
 ghost use Rattle.machine_core.specs.Turns.{IsReady, Goes};
 ghost use Rattle.luo_calls.specs.Opened.{Opens};
 ghost use Rattle.luo_calls.specs.Takes.{TookRuns};
-ghost use Rattle.freeze_path.specs.Ready.{folios_of, reply_for, took_by, EndedFirst, TookFrames};
+ghost use Rattle.freeze_path.specs.Ready.{folios_of, reply_for, took_by, EndedFirst, IsToldEarly, TookFrames};
 
 use ho_base::Items;
 use ho_base::numbers::{NoMemory, ObjectNo, Order, Pfn};
@@ -23,9 +23,6 @@ use pool_core::Pool;
 use std::alloc::Global;
 use std::snapshot::Snapshot;
 
-/// The least last stamp that is too great for two entries more.
-const LAST: u64 = (1 << 63) - 1;
-
 /// How the turns of a kexec came out.
 pub enum Took {
     /// These frames were taken.
@@ -34,16 +31,15 @@ pub enum Took {
     TooFew,
     /// Out of memory. Nothing was done.
     Memory,
-    /// The greatest stamp is too great for two entries more. Nothing was done.
-    Late,
 }
 
 /// Takes the pool, with room for an entry in its history and for two in the agent's log. Where that can't be, nothing is
 /// done.
 fn open<R: Reach>(alloc: Global, reach: &mut R, at: At, count: u32) -> Result<(Slip, Pool), Took>
     requires free { (R.shown reach.old).hands pool_no ≡ None }
+    requires early { at.last + 1 < 2 ^ 63 }
+    requires told { IsToldEarly (R.shown reach.old).told }
     ensures opens { IfOk result (λ t. Opens at pool_no (R.shown reach.old) (R.shown reach.new) (Object.Pool t.1)) }
-    ensures early { IfOk result (λ t. at.last + 1 < 2 ^ 63) }
     ensures last { IfOk result (λ t. last_stamp t.1.history + 1 < 2 ^ 63) }
     ensures at { IfOk result (λ t. t.0.at ≡ at) }
     ensures listed { IfOk result (λ t. t.0.room.reply_numbers ≡ count) }
@@ -51,9 +47,6 @@ fn open<R: Reach>(alloc: Global, reach: &mut R, at: At, count: u32) -> Result<(S
     ensures none { IfErr result (TookFrames count at (R.shown reach.old) (R.shown reach.new)) }
     ensures no_folios { IfErr result (λ took. folios_of (R.shown reach.old).anchor.home took ≡ []) }
 {
-    if at.last >= LAST {
-        return Err(Took::Late);
-    }
     if let Err(NoMemory) = reach.room(2) {
         return Err(Took::Memory);
     }
@@ -62,11 +55,6 @@ fn open<R: Reach>(alloc: Global, reach: &mut R, at: At, count: u32) -> Result<(S
         Err(NoMemory) => return Err(Took::Memory),
     };
     let mut state = reach.begin(ObjectNo::POOL);
-    let last = state.last_stamp();
-    if last >= LAST {
-        reach.end(ObjectNo::POOL, state, None);
-        return Err(Took::Late);
-    }
     if let Err(NoMemory) = state.reserve(1) {
         reach.end(ObjectNo::POOL, state, None);
         return Err(Took::Memory);
@@ -120,6 +108,8 @@ fn take<R: Reach>(
 ) -> Result<Option<Snapshot<Items<Pfn>>>, Took>
     requires ready { IsReady at.old (R.shown reach.old) }
     requires free { (R.shown reach.old).hands pool_no ≡ None }
+    requires early { at.old.last + 1 < 2 ^ 63 }
+    requires told { IsToldEarly (R.shown reach.old).told }
     requires some { 1 ≤ count }
     requires empty { out.old.items ≡ [] }
     requires spare { vec_len out.old + count ≤ vec_capacity out.old }
@@ -179,6 +169,8 @@ pub(crate) fn take_frames<R: Reach>(
 ) -> Took
     requires ready { IsReady at (R.shown reach.old) }
     requires free { (R.shown reach.old).hands pool_no ≡ None }
+    requires early { at.last + 1 < 2 ^ 63 }
+    requires told { IsToldEarly (R.shown reach.old).told }
     requires some { 1 ≤ count }
     requires empty { out.old.items ≡ [] }
     requires spare { vec_len out.old + count ≤ vec_capacity out.old }

@@ -23,6 +23,7 @@ use Rattle.machine_core.specs.LabelsShown.{agent_count}
 use Rattle.machine_core.specs.Objects.{spot_at}
 use Rattle.handover_cli.specs.Rounds.{IsAfter}
 use Rattle.handover_cli.specs.Run.{OnCold}
+use Rattle.sound_histories.specs.Scripts.{AreSoundBlocks}
 use Rattle.handover_cli.specs.Works.{CanDo, CanRun}
 use Rattle.handover_cli.proofs.KernelWorlds.{built_is, cold_quiet, no_handler, all_same, how_many}
 use Rattle.kexec_laws.specs.Kexecs.{is_agent, has_agents}
@@ -142,8 +143,9 @@ with_agents (Round works) single = all_follow is_agent_section is_agent works (�
 with_agents (Kexec blob) single = refl
 
 -- the blocks of a script that was read can be run
-pub can_run : (script : Script) → IsTrue (is_built_script script) → IsTrue (is_numbered script) → IsTrue (is_single_script script) → IsTrue (is_small_script script) → CanRun script.blocks
-can_run script built numbered single small = record {
+pub can_run : (script : Script) → IsTrue (is_built_script script) → IsTrue (is_numbered script) → IsTrue (is_single_script script) → IsTrue (is_small_script script) → AreSoundBlocks script.blocks → CanRun script.blocks
+can_run script built numbered single small sound = record {
+  sound = sound;
   rising = numbered_rises script numbered;
   rounds = λ b work above is. numbered_rounds script b work numbered above is;
   kexecs = λ b blob is. numbered_kexecs script.blocks b blob (all_follow is_single_block has_agents script.blocks with_agents singles) is;

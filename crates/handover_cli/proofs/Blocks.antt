@@ -1,5 +1,5 @@
 -- A block more: what one agent did alone, or that nobody worked, takes the history and the kernel on.
-use Rattle.std.proofs.Common.{◌≡◌, ◌≢◌, ℕ, ◌+◌, ◌<◌, Bool, true, false, not, ◌&&◌, ◌==◌, max, nat_lt, List, [], ◌∷◌, ◌++◌, length, fold, cond, refl, sym, ap, subst, ◌∙◌, arith, IsTrue, is_some}
+use Rattle.std.proofs.Common.{◌≡◌, ◌≢◌, ℕ, ◌+◌, ◌<◌, Bool, true, false, not, ◌&&◌, ◌==◌, max, nat_lt, List, [], ◌∷◌, ◌++◌, length, fold, cond, refl, sym, ap, subst, ◌∙◌, arith, IsTrue, is_some, zero, suc, take}
 use Rattle.std.specs.Prelude.{Option, Some, count_by, slice_get}
 use Rattle.std.specs.List.{list_all}
 use Rattle.std.proofs.lemmas.Bool.Decides.{nat_tests}
@@ -33,7 +33,11 @@ use Rattle.machine_core.specs.Kernels.{KernelValue, object_at, starts_in, begun_
 use Rattle.handover_cli.specs.Rounds.{WorkedAlone, IsAfter, labels_at, begins_at}
 use Rattle.handover_cli.specs.Works.{CanDo, CanRun, DidBlock, FollowsAs, due_after}
 use Rattle.handover_cli.proofs.KernelWorlds.{no_history, ran}
-use Rattle.handover_cli.proofs.KexecBlocks.{GoesOn, kexec_through, kexec_done, kexec_here, kexec_some, kexec_world, world_before, world_now}
+use Rattle.handover_cli.proofs.KexecBlocks.{GoesOn, kexec_through, kexec_done, kexec_here, kexec_some, kexec_sound, kexec_world, world_before, world_now}
+use Rattle.ho_events.specs.Script.Rules.{sections_of}
+use Rattle.sound_histories.specs.Binding.{HasOnly, bound_in}
+use Rattle.sound_histories.specs.Scripts.{AreSoundBlocks, StandsSound}
+use Rattle.sound_histories.proofs.Standing.{round_stands}
 use Rattle.machine_core.specs.Worlds.{IsWorldOf}
 use Rattle.kexec_laws.specs.Kexecs.{kexec_number}
 use Rattle.ho_base.specs.Objects.{handler_no}
@@ -153,6 +157,10 @@ module _ (start : World) (blocks : List Block) (es new : List Entry) (b k : ℕ)
 
   pub worked_next : IsNext start blocks es new b k
   worked_next = gives.next
+
+  -- the world stays sound
+  pub worked_sound : AreSoundBlocks blocks → StandsSound start blocks es b k → StandsSound start blocks (es ++ new) (b + 1) k
+  worked_sound sound s = round_stands start blocks es new b k work (begun_in kernel.objects) before later sound numbers r t alone s
 
   -- the kernel stays, as no entry is agent 0's
   no_end : (e : Entry) → IsTrue (is_mine first many e) → IsTrue (not (ends_kernel e))
@@ -317,3 +325,37 @@ ended_some start blocks es new b kernel old (Round works) ended runs is t here d
     not_both c e f = cc
 ended_some start blocks es new b kernel old (Kexec blob) ended runs is t here did ending =
     kexec_some start blocks es new b kernel old (kexec_number blocks b) blob did.outcome runs.rising (runs.kexecs b blob is) t here did.still did.did (did.ending ∙ ending)
+
+-- a round of no agent
+sections_stay : (blocks : List Block) (b : ℕ) → slice_get blocks b ≡ Some (Round []) → sections_of (take (suc b) blocks) ≡ sections_of (take b blocks)
+sections_stay [] b is = absurd cc
+sections_stay (x ∷ blocks) zero is = subst (λ y. sections_of (y ∷ []) ≡ []) (sym (same x (Round []) is)) refl
+  where
+    same : (x y : Block) → Some x ≡ Some y → x ≡ y
+    same x y e = cc
+sections_stay (Round works ∷ blocks) (suc b) is = ap (λ ws. works ++ ws) (sections_stay blocks b is)
+sections_stay (Kexec blob ∷ blocks) (suc b) is = sections_stay blocks b is
+
+idle_stands : (start : World) (blocks : List Block) (es : List Entry) (b k : ℕ) → slice_get blocks b ≡ Some (Round []) → StandsSound start blocks es b k → StandsSound start blocks (es ++ []) (b + 1) k
+idle_stands start blocks es b k is s =
+    subst (λ xs. StandsSound start blocks xs (b + 1) k) (sym (append-nil es))
+    (record { sound = s.sound; bound = λ a. subst (λ ws. HasOnly (labels_now blocks k a es) (bound_in [] ws) a) (sym (ap (λ n. sections_of (take n blocks)) (next b) ∙ sections_stay blocks b is)) (s.bound a) })
+  where
+    next : (n : ℕ) → n + 1 ≡ suc n
+    next n = omega arith
+
+-- the world in which the kernel runs that is due stays sound
+pub block_sound : (start : World) (blocks : List Block) (es new : List Entry) (b : ℕ) (kernel old : KernelValue) (block : Block) (ended : Bool)
+    → CanRun blocks → slice_get blocks b ≡ Some block → CanDo block → IsThrough start blocks es b kernel.number → IsAfter start blocks es kernel.number kernel → DidBlock (kexec_number blocks b) block kernel old new ended
+    → StandsSound start blocks es b kernel.number → StandsSound start blocks (es ++ new) (b + 1) (due_after ended old.number)
+block_sound start blocks es new b kernel old (Round []) ended runs is can t here did s =
+    let same : kernel.number ≡ due_after ended old.number = ap (λ (k : KernelValue). k.number) (sym did.0.0) ∙ ap (λ e. due_after e old.number) (sym did.1) in
+    subst (λ k. StandsSound start blocks (es ++ new) (b + 1) k) same
+    (subst (λ xs. StandsSound start blocks (es ++ xs) (b + 1) kernel.number) (sym did.0.1) (idle_stands start blocks es b kernel.number is s))
+block_sound start blocks es new b kernel old (Round (work ∷ [])) ended runs is can t here did s =
+    let same : kernel.number ≡ due_after ended old.number = sym did.0.number ∙ ap (λ e. due_after e old.number) (sym did.1) in
+    subst (λ k. StandsSound start blocks (es ++ new) (b + 1) k) same
+    (worked_sound start blocks es new b kernel.number kernel old work runs.rising (runs.rounds b work can.above is) t can.above here did.0 runs.sound s)
+block_sound start blocks es new b kernel old (Round (work ∷ more ∷ works)) ended runs is can t here did s = absurd can
+block_sound start blocks es new b kernel old (Kexec blob) ended runs is can t here did s =
+    kexec_sound start blocks es new b kernel old (kexec_number blocks b) blob ended runs.rising (runs.kexecs b blob is) t here did s

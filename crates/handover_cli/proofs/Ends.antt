@@ -1,5 +1,5 @@
 -- What an ended kernel left lets the next one boot, and that one follows it.
-use Rattle.std.proofs.Common.{◌≡◌, ◌+◌, ◌<◌, ◌≤◌, true, refl, sym, subst, ◌∙◌}
+use Rattle.std.proofs.Common.{◌≡◌, ℕ, ◌+◌, ◌<◌, ◌≤◌, true, List, Result, Ok, Err, IfOk, refl, sym, ap, subst, ◌∙◌}
 use Rattle.ho_base.specs.ShapeRule.{Layout}
 use Rattle.ho_base.specs.declared.limits.TheConstants.{KEXECS}
 use Rattle.ho_world.specs.Frozen.{frozen, scratch_need, scratch_have}
@@ -7,7 +7,11 @@ use Rattle.ho_world.specs.World.{World}
 use Rattle.kexec_boot.specs.Begins.{BeginsAs}
 use Rattle.machine_core.specs.Kernels.{KernelValue}
 use Rattle.machine_core.specs.Worlds.{IsWorldOf}
-use Rattle.handover_cli.specs.Ends.{LeftAs, has_ended, CanGoOn, RunsAs}
+use Rattle.ho_events.specs.declared.script.AgentWork.{AgentWork}
+use Rattle.ho_events.specs.declared.script.Block.{Block}
+use Rattle.ho_events.specs.declared.script.Block.TheVariants.{Round}
+use Rattle.handover_cli.specs.declared.rebooting.BlockDone.{BlockDone}
+use Rattle.handover_cli.specs.Ends.{DidAndLeft, LeftAs, has_ended, CanGoOn, RunsAs}
 use Rattle.handover_cli.specs.Works.{FollowsAs}
 use Rattle.handover_cli.specs.declared.rebooting.Next.{Next}
 use Rattle.handover_cli.specs.declared.rebooting.Next.TheVariants as next
@@ -27,3 +31,9 @@ can_go_on old (next.Ended e) left w few = record {
   fits = subst (λ (s : Layout). scratch_need s e.blob ≤ scratch_have s) (sym left.shape) left.fits;
   few = subst (λ k. k < KEXECS) (sym left.kernel) (few refl);
 }
+
+-- a round that was done, with whatever number the next kexec has
+pub round_left : {E : Type 0} (r : Result BlockDone E) (number : ℕ) (kernel : KernelValue) (works given : List AgentWork) (block : Block) → block ≡ Round works → given ≡ works
+    → IfOk r (λ d. (n : ℕ) → DidAndLeft n (Round given) kernel d.entries.items d.next) → IfOk r (λ d. DidAndLeft number block kernel d.entries.items d.next)
+round_left (Ok d) number kernel works given block is same h = subst (λ b. DidAndLeft number b kernel d.entries.items d.next) (ap (λ ws. Round ws) same ∙ sym is) (h number)
+round_left (Err e) number kernel works given block is same h = tt

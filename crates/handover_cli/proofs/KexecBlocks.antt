@@ -34,6 +34,8 @@ use Rattle.kexec_boot.specs.Begins.{BeginsAs}
 use Rattle.freeze_path.specs.Freezes.{IsStill, DidKexec}
 use Rattle.handover_cli.specs.Rounds.{IsAfter}
 use Rattle.handover_cli.specs.Works.{FollowsAs, Kexeced, due_after, kexec_at}
+use Rattle.sound_histories.specs.Scripts.{StandsSound}
+use Rattle.sound_histories.proofs.Standing.{refused_stands, ended_stands}
 use Rattle.handover_cli.proofs.KernelWorlds.{no_history, ran, world_is, built_is, no_handler, next_quiet, all_same, how_many}
 
 -- a block that was done: the history goes through it, and the kernel is as the longer history says; at most a kexec made
@@ -128,6 +130,15 @@ module _ (start : World) (blocks : List Block) (es new : List Entry) (b : ℕ) (
 
   answered : is_ok did.sequence.reply ≡ ends outcome
   answered = only_ends_are_ok (world_of start es k) blob outcome did.sequence (did.is_one (world_of start es k) (world_before start blocks es k kernel here))
+
+  -- the world stays sound, or the next kernel's is
+  pub refused_is_sound : ends outcome ≡ false → StandsSound start blocks es b k → StandsSound start blocks (es ++ new) (b + 1) k
+  unfolding kexeced
+  refused_is_sound refused s = refused_stands start blocks es new b k blob at begun numbers r t kexeced (answered ∙ refused) s
+
+  pub ended_is_sound : ends outcome ≡ true → StandsSound start blocks es b k → StandsSound start blocks (es ++ new) (b + 1) (k + 1)
+  unfolding kexeced
+  ended_is_sound ending s = ended_stands start blocks es new b k blob at begun numbers r t kexeced (answered ∙ ending) s
 
   -- a refused kexec
   pub rebooted_after : ends outcome ≡ false → IsThrough start blocks (es ++ new) (b + 1) old.number × IsAfter start blocks (es ++ new) old.number old
@@ -228,3 +239,14 @@ kexec_done start blocks es new b kernel old kernel' number blob true numbers r t
       after = both.1;
       few = omega (arith, next, same);
     }
+
+-- the world in which the kernel runs that is due
+pub kexec_sound : (start : World) (blocks : List Block) (es new : List Entry) (b : ℕ) (kernel old : KernelValue) (number : ℕ) (blob : Blob) (ended : Bool)
+    → HasRisingNumbers blocks → IsKexecOf blocks b blob number → IsThrough start blocks es b kernel.number → IsAfter start blocks es kernel.number kernel → Kexeced number blob kernel old new ended
+    → StandsSound start blocks es b kernel.number → StandsSound start blocks (es ++ new) (b + 1) (due_after ended old.number)
+kexec_sound start blocks es new b kernel old number blob false numbers r t here did s =
+    subst (λ k. StandsSound start blocks (es ++ new) (b + 1) k) (sym did.still.number)
+    (refused_is_sound start blocks es new b kernel old number blob did.outcome numbers r t here did.still did.did did.ending s)
+kexec_sound start blocks es new b kernel old number blob true numbers r t here did s =
+    subst (λ k. StandsSound start blocks (es ++ new) (b + 1) (k + 1)) (sym did.still.number)
+    (ended_is_sound start blocks es new b kernel old number blob did.outcome numbers r t here did.still did.did did.ending s)

@@ -32,11 +32,14 @@ use Rattle.handover_cli.specs.declared.rebooting.Ended.{Ended}
 use Rattle.handover_cli.specs.declared.rebooting.Next.{Next}
 use Rattle.handover_cli.specs.declared.rebooting.Next.TheVariants as next
 use Rattle.machine_core.specs.Worlds.{IsWorldOf}
-use Rattle.handover_cli.proofs.Blocks.{block_through, block_done, block_world, block_here, block_number, ended_some, ended_world}
+use Rattle.freeze_path.specs.Ready.{IsSoundKernel}
+use Rattle.ho_world.specs.Legal.{labels_now}
+use Rattle.handover_cli.proofs.Blocks.{block_through, block_done, block_sound, block_world, block_here, block_number, ended_some, ended_world}
+use Rattle.sound_histories.specs.Scripts.{StandsSound}
 use Rattle.handover_cli.proofs.Ends.{follows, can_go_on}
 use Rattle.handover_cli.proofs.ImageWorlds.{images_stay}
 use Rattle.handover_cli.proofs.ImagesMade.{unasked, unasked_twice, made_none, made_still, made_more, made_less}
-use Rattle.handover_cli.proofs.KexecBlocks.{GoesOn}
+use Rattle.handover_cli.proofs.KexecBlocks.{GoesOn, world_before}
 use Rattle.kexec_laws.specs.Kexecs.{kexec_number}
 use Rattle.kexec_laws.proofs.KexecNumbers.{kexecs_counted}
 use Rattle.ho_base.specs.declared.limits.TheConstants.{KEXECS}
@@ -49,6 +52,7 @@ pub record Stands (start : World) (blocks : List Block) (b : ℕ) (kernel : Kern
   pub through : IsThrough start blocks entries b kernel.number
   pub after : IsAfter start blocks entries kernel.number kernel
   pub few : kernel.number ≤ kexecs_in (take b blocks)
+  pub sound : StandsSound start blocks entries b kernel.number
   pub written : now.out ≡ behind before.out (text_of entries)
   pub made : Made start entries kernel.number images before now
 
@@ -68,14 +72,15 @@ text_parts [] ys = refl
 text_parts (x ∷ xs) ys = ap (λ zs. line_of x ++ zs) (text_parts xs ys) ∙ sym (append_assoc (line_of x) (text_of xs) (text_of ys))
 
 -- nothing is done at first
-pub stands_first : (start : World) (blocks : List Block) (kernel : KernelValue) (images : Option (List ℕ)) (s : Seen) → IsAfter start blocks [] 0 kernel → Stands start blocks 0 kernel images s s
-stands_first start blocks kernel images s after =
+pub stands_first : (start : World) (blocks : List Block) (kernel : KernelValue) (images : Option (List ℕ)) (s : Seen) → IsAfter start blocks [] 0 kernel → StandsSound start blocks [] 0 0 → Stands start blocks 0 kernel images s s
+stands_first start blocks kernel images s after sound =
     let first : kernel.number ≡ 0 = after.number in
     record {
       entries = [];
       through = subst (λ k. IsThrough start blocks [] 0 k) (sym first) (through_none start blocks);
       after = subst (λ k. IsAfter start blocks [] k kernel) (sym first) after;
       few = omega (arith, first);
+      sound = subst (λ k. StandsSound start blocks [] 0 k) (sym first) sound;
       written = behind_nothing s.out;
       made = subst (λ k. Made start [] k images s s) (sym first) (made_none start images s);
     }
@@ -222,6 +227,8 @@ module _ (start : World) (blocks : List Block) (b : ℕ) (block : Block) (kernel
         through = went.through;
         after = went.after;
         few = (let counted = (kexecs_counted blocks b block is).0 in omega (arith, went.few, s.few, counted));
+        sound = subst (λ x. StandsSound start blocks (es ++ new) (b + 1) x) (due_is kernel' runs_as)
+            (block_sound start blocks es new b kernel d.old block (has_ended n) runs is can s.through s.after d.did s.sound);
         written = more_written before.out mid.out now.out es new s.written (wrote.written ∙ ap (λ xs. behind mid.out (text_of xs)) new_is);
         made = subst (λ x. Made start (es ++ new) x images before now) (due_is kernel' runs_as) (kept_all now (subst (λ m. KeptAll m images mid now) next_is wrote.kept));
       }
@@ -281,6 +288,15 @@ module _ (start : World) (blocks : List Block) (b : ℕ) (block : Block) (kernel
   goes_on =
       can_go_on d.old n d.left (block_world start blocks es new b kernel d.old block (has_ended n) runs is can s.through s.after d.did)
       (λ ending. ended_is_few (has_ended n) start blocks b block kernel d.old images before mid new runs is d.did s ending)
+
+-- the kernel that stands has a sound world
+pub stands_sound : (start : World) (blocks : List Block) (b : ℕ) (kernel : KernelValue) (images : Option (List ℕ)) (before now : Seen) → Stands start blocks b kernel images before now → IsSoundKernel kernel
+stands_sound start blocks b kernel images before now s = record {
+  world = world_of start s.entries kernel.number;
+  is_world = world_before start blocks s.entries kernel.number kernel s.after;
+  labels = λ a. labels_now blocks kernel.number a s.entries;
+  sound = s.sound.sound;
+}
 
 -- all blocks are done
 pub stands_all : (start : World) (blocks : List Block) (b : ℕ) (kernel : KernelValue) (images : Option (List ℕ)) (before now : Seen) → b ≡ length blocks → Stands start blocks b kernel images before now → WroteAll start blocks images before now

@@ -20,6 +20,7 @@ use Rattle.machine_core.specs.LabelsShown.{agent_count}
 use Rattle.machine_core.specs.Worlds.{IsWorldOf}
 use Rattle.kexec_boot.specs.Begins.{BeginsAs}
 use Rattle.freeze_path.specs.Freezes.{IsStill, DidKexec}
+use Rattle.sound_histories.specs.Scripts.{AreSoundBlocks}
 use Rattle.handover_cli.specs.Rounds.{WorkedAlone}
 
 -- an agent's commands are built ones, and its number and theirs are in their ranges
@@ -74,10 +75,11 @@ abbrev pub due_after : Bool → ℕ → ℕ
 due_after false k = k
 due_after true k = k + 1
 
--- the blocks of a script that a run can do, with their numbers in order
+-- the blocks of a script that a run can do, with their numbers in order; each label of an agent is bound by one command
 pub record CanRun (blocks : List Block) : Type 0 where
   pub rising : HasRisingNumbers blocks
   pub rounds : (b : ℕ) (work : AgentWork) → 0 < work.agent.0 → slice_get blocks b ≡ Some (Round (work ∷ [])) → IsRoundOf blocks b work
   pub kexecs : (b : ℕ) (blob : Blob) → slice_get blocks b ≡ Some (Kexec blob) → IsKexecOf blocks b blob (kexec_number blocks b)
   pub few : kexecs_in blocks ≤ KEXECS
+  pub sound : AreSoundBlocks blocks
   pub each : (b : ℕ) (block : Block) → slice_get blocks b ≡ Some block → CanDo block

@@ -4,6 +4,7 @@ ghost use Rattle.std.specs.Prelude.{◌≡◌, ◌<◌, IfOk};
 ghost use Rattle.ho_base.specs.declared.limits.TheConstants.{KEXECS};
 ghost use Rattle.ho_events.specs.declared.script.Block.TheVariants.{Kexec};
 ghost use Rattle.freeze_path.specs.Freezes.{IsOfKernel};
+ghost use Rattle.freeze_path.specs.Ready.{IsSoundKernel};
 ghost use Rattle.handover_cli.specs.Ends.{CanGoOn, CanBoot, DidAndLeft, EndedAs, BootsAs, RunsAs};
 
 use crate::agent_runner::end_kernel;
@@ -57,14 +58,14 @@ fn end(kernel: Kernel, frozen: Frozen) -> Ended
 ///
 /// # Errors
 ///
-/// [`NoMemory`] where memory of the host was wanted, and where the kernel's state can't be carried or its stamps are at
-/// their end. The kernel's memory is given back then.
+/// [`NoMemory`] where memory of the host was wanted, and where the kernel's stamps are at their end. The kernel's memory is given back then.
 pub fn do_kexec(
     alloc: Global,
     kernel: Kernel,
     number: u32,
     blob: Blob,
 ) -> Result<BlockDone, NoMemory>
+    requires sound { IsSoundKernel kernel }
     ensures { IfOk result (λ d. DidAndLeft number (Kexec blob) kernel d.entries.items d.next) }
 {
     let at = At {
@@ -87,7 +88,7 @@ pub fn do_kexec(
             entries,
             next: Next::Same(kernel),
         }),
-        Freezing::Late(_) | Freezing::Memory | Freezing::Broken => {
+        Freezing::Late(_) | Freezing::Memory => {
             end_kernel(kernel, Vec::new(alloc));
             Err(NoMemory)
         }

@@ -12,6 +12,8 @@ ghost use Rattle.handover_cli.specs.Run.{OnCold, WroteAll, WroteBlocks, WroteSoF
 ghost use Rattle.handover_cli.specs.Refusals.{usage_line, line_text, reason_word, too_long_text, IsAccepted};
 ghost use Rattle.handover_cli.specs.Due.{WroteFront, WritesPart, WritesPartFor, Completes};
 ghost use Rattle.handover_cli.specs.Asked.{AsksImages, AsksOnly};
+ghost use Rattle.freeze_path.specs.Ready.{IsSoundKernel};
+ghost use Rattle.sound_histories.specs.Scripts.{AreSoundBlocks};
 ghost use Rattle.handover_cli.specs.Ends.{DidAndLeft};
 ghost use Rattle.handover_cli.specs.Images.{seen};
 ghost use Rattle.handover_cli.specs.Kept.{WroteBlock, WroteLess, WroteShort};
@@ -93,6 +95,7 @@ fn run_block(
 ) -> Result<BlockDone, NoMemory>
     requires lists { length kernel.labels ≡ agent_count }
     requires block { CanDo block.now }
+    requires sound { IsSoundKernel kernel }
     ensures { IfOk result (λ d. DidAndLeft number block.now kernel d.entries.items d.next) }
 {
     match block {
@@ -218,6 +221,7 @@ fn run_history<H: Host>(alloc: Global, script: Script, images: Option<&str>, hos
     requires numbered { IsTrue (is_numbered script) }
     requires single { IsTrue (is_single_script script) }
     requires small { IsTrue (is_small_script script) }
+    requires sound { AreSoundBlocks script.blocks }
     ensures legal { result ≡ Status.Done → OnCold (λ start blocks. WroteAll start blocks (option_map (λ file. file.now) images.entry) (seen (H.out host.old) (H.made host.old) (H.asked host.old)) (seen (H.out host.new) (H.made host.new) (H.asked host.new))) script }
     ensures memory { result ≡ Status.Memory → OnCold (λ start blocks. WroteBlocks start blocks (option_map (λ file. file.now) images.entry) (seen (H.out host.old) (H.made host.old) (H.asked host.old)) (seen (H.out host.new) (H.made host.new) (H.asked host.new))) script }
     ensures part { result ≡ Status.WriteFault → OnCold (λ start blocks. WroteSoFar start blocks (option_map (λ file. file.now) images.entry) (seen (H.out host.old) (H.made host.old) (H.asked host.old)) (seen (H.out host.new) (H.made host.new) (H.asked host.new))) script }

@@ -1,13 +1,14 @@
 -- Files and sessions, as they are carried.
 use Rattle.std.proofs.Common.{◌≡◌, ℕ, ◌+◌, ◌-◌, ◌<◌, List, [], ◌∷◌, ◌++◌, length, map, take, replicate, get_or, refl, ap, sym, ◌∙◌, subst, arith, cond}
-use Rattle.std.specs.Prelude.{Option, None, Some, MatchOption, option_map, min, IfSome}
+use Rattle.std.specs.Prelude.{Option, None, Some, MatchOption, option_map, min, IsTrue, ◌^◌}
 use Rattle.std.specs.FinMap as finmap
-use Rattle.std.specs.List.{flat_map}
-use Rattle.std.proofs.lemmas.List.{append-nil, take_more, map-append}
+use Rattle.std.specs.List.{All, flat_map}
+use Rattle.std.proofs.lemmas.List.{append-nil, take_more, map-append, length-map, get_or-map}
 use Rattle.std.proofs.Math.Seq.{take-append_seam}
 use Rattle.std.specs.Cmp.{nat_cmp_total}
 use Rattle.std.specs.Ordering.{nat_cmp}
-use Rattle.ho_base.specs.declared.limits.TheConstants.{PAGE_BYTES}
+use Rattle.ho_base.specs.declared.limits.TheConstants.{PAGE_BYTES, OUT_SLOTS, IN_SLOTS}
+use Rattle.ho_base.specs.NameRule.{is_name}
 use Rattle.ho_base.specs.declared.numbers.Kind.TheVariants.{Memfd}
 use Rattle.ho_base.specs.declared.numbers.Pfn.{Pfn}
 use Rattle.ho_base.specs.Objects.{file_no, session_no, registry_no}
@@ -32,7 +33,7 @@ use Rattle.record_frames.specs.State.{file_in}
 use Rattle.record_frames.specs.declared.carried.Carried.{Carried}
 use Rattle.record_frames.specs.declared.carried.CarriedFile.{CarriedFile}
 use Rattle.record_frames.specs.declared.carried.CarriedSession.{CarriedSession}
-use Rattle.kernel_carried.specs.Gathered.{Agrees, IsCarriedAs, IsFileOf, AreFilesOf, IsSessionOf, AreSessionsOf, IsGathered, listed_in}
+use Rattle.kernel_carried.specs.Gathered.{Agrees, IsCarriedAs, IsFileOf, AreFilesOf, IsSessionOf, AreSessionsOf, HaveSlots, IsGathered, listed_in}
 use Rattle.kernel_carried.proofs.States.{file_stands, session_stands, registry_stands, file_there, session_there, registry_there}
 
 -- the bytes of a page's front
@@ -70,8 +71,8 @@ front_of ram bytes p c at s o r =
     ∙ ap (λ (l : List Pfn). take (length bytes) (flat_map (run_bytes ram 0) (firsts l))) r
     ∙ ap (take (length bytes)) (one_bytes ram p.0 ∙ at) ∙ page_front bytes
 
-some_page : (f : FileState) (p : Pfn) (c : CarriedFile) (token : ℕ) → IsOnePage (Some p) f → c.token.0 ≡ token → c.kind ≡ Memfd → c.order.0 ≡ 0 → c.size ≡ length f.bytes → c.position ≡ f.position → c.handle ≡ 0 → c.runs ≡ p ∷ [] → IsCarriedAs token (Some f) c
-some_page f p c token page t k o s q h r = record {
+some_page : (f : FileState) (p : Pfn) (c : CarriedFile) (token : ℕ) → IsOnePage (Some p) f → c.token.0 ≡ token → c.kind ≡ Memfd → c.order.0 ≡ 0 → c.size ≡ length f.bytes → c.position ≡ f.position → c.handle ≡ 0 → c.runs ≡ p ∷ [] → c.token.0 < 2 ^ 64 → IsCarriedAs token (Some f) c
+some_page f p c token page t k o s q h r fits = record {
   is = λ ram handle holds.
       let at : ram.page p.0 ≡ page_of f.bytes = holds p.0 (ap (λ m. finmap.get m 0) page.3 ∙ run_there p.0) in
       λ i. record {
@@ -86,10 +87,12 @@ some_page f p c token page t k o s q h r = record {
   memfd = k;
   single = o;
   few = omega (arith, ap length r);
+  size = s;
+  fits = fits;
 }
 
-no_page : (f : FileState) (c : CarriedFile) (token : ℕ) → IsOnePage None f → c.token.0 ≡ token → c.kind ≡ Memfd → c.order.0 ≡ 0 → c.size ≡ length f.bytes → c.position ≡ f.position → c.handle ≡ 0 → c.runs ≡ [] → IsCarriedAs token (Some f) c
-no_page f c token page t k o s q h r = record {
+no_page : (f : FileState) (c : CarriedFile) (token : ℕ) → IsOnePage None f → c.token.0 ≡ token → c.kind ≡ Memfd → c.order.0 ≡ 0 → c.size ≡ length f.bytes → c.position ≡ f.position → c.handle ≡ 0 → c.runs ≡ [] → c.token.0 < 2 ^ 64 → IsCarriedAs token (Some f) c
+no_page f c token page t k o s q h r fits = record {
   is = λ ram handle holds. λ i. record {
     token = t i;
     kind = (k ∙ sym page.0) i;
@@ -102,10 +105,12 @@ no_page f c token page t k o s q h r = record {
   memfd = k;
   single = o;
   few = omega (arith, ap length r);
+  size = s;
+  fits = fits;
 }
 
-no_file : (c : CarriedFile) (token : ℕ) → c.token.0 ≡ token → c.kind ≡ Memfd → c.order.0 ≡ 0 → c.size ≡ 0 → c.position ≡ 0 → c.handle ≡ 0 → c.runs ≡ [] → IsCarriedAs token None c
-no_file c token t k o s q h r = record {
+no_file : (c : CarriedFile) (token : ℕ) → c.token.0 ≡ token → c.kind ≡ Memfd → c.order.0 ≡ 0 → c.size ≡ 0 → c.position ≡ 0 → c.handle ≡ 0 → c.runs ≡ [] → c.token.0 < 2 ^ 64 → IsCarriedAs token None c
+no_file c token t k o s q h r fits = record {
   is = λ ram handle holds. λ i. record {
     token = t i;
     kind = k i;
@@ -118,6 +123,8 @@ no_file c token t k o s q h r = record {
   memfd = k;
   single = o;
   few = omega (arith, ap length r);
+  size = s;
+  fits = fits;
 }
 
 -- the size and the position that are told of a file
@@ -125,21 +132,21 @@ abbrev pub told : Option Facts → ℕ × ℕ
 told None = (0, 0)
 told (Some facts) = (facts.size, facts.position)
 
-with_page : (f : FileState) (page : Option Pfn) (c : CarriedFile) (token : ℕ) → IsOnePage page f → c.token.0 ≡ token → c.kind ≡ Memfd → c.order.0 ≡ 0 → c.size ≡ length f.bytes → c.position ≡ f.position → c.handle ≡ 0 → c.runs ≡ frame_list page → IsCarriedAs token (Some f) c
-with_page f None c token one t k o s q h r = no_page f c token one t k o s q h r
-with_page f (Some p) c token one t k o s q h r = some_page f p c token one t k o s q h r
+with_page : (f : FileState) (page : Option Pfn) (c : CarriedFile) (token : ℕ) → IsOnePage page f → c.token.0 ≡ token → c.kind ≡ Memfd → c.order.0 ≡ 0 → c.size ≡ length f.bytes → c.position ≡ f.position → c.handle ≡ 0 → c.runs ≡ frame_list page → c.token.0 < 2 ^ 64 → IsCarriedAs token (Some f) c
+with_page f None c token one t k o s q h r fits = no_page f c token one t k o s q h r fits
+with_page f (Some p) c token one t k o s q h r fits = some_page f p c token one t k o s q h r fits
 
-at_state : (s : Option FileState) (page : Option Pfn) (facts : Option Facts) (c : CarriedFile) (token : ℕ) → MatchOption s (page ≡ None) (IsOnePage page) → facts ≡ option_map facts_of s → c.token.0 ≡ token → c.kind ≡ Memfd → c.order.0 ≡ 0 → c.size ≡ (told facts).0 → c.position ≡ (told facts).1 → c.handle ≡ 0 → c.runs ≡ frame_list page → IsCarriedAs token s c
-at_state None page facts c token is f t k o s q h r = no_file c token t k o (s ∙ ap (λ x. (told x).0) f) (q ∙ ap (λ x. (told x).1) f) h (r ∙ ap frame_list is)
-at_state (Some g) page facts c token is f t k o s q h r = with_page g page c token is t k o (s ∙ ap (λ x. (told x).0) f) (q ∙ ap (λ x. (told x).1) f) h r
+at_state : (s : Option FileState) (page : Option Pfn) (facts : Option Facts) (c : CarriedFile) (token : ℕ) → MatchOption s (page ≡ None) (IsOnePage page) → facts ≡ option_map facts_of s → c.token.0 ≡ token → c.kind ≡ Memfd → c.order.0 ≡ 0 → c.size ≡ (told facts).0 → c.position ≡ (told facts).1 → c.handle ≡ 0 → c.runs ≡ frame_list page → c.token.0 < 2 ^ 64 → IsCarriedAs token s c
+at_state None page facts c token is f t k o s q h r fits = no_file c token t k o (s ∙ ap (λ x. (told x).0) f) (q ∙ ap (λ x. (told x).1) f) h (r ∙ ap frame_list is) fits
+at_state (Some g) page facts c token is f t k o s q h r fits = with_page g page c token is t k o (s ∙ ap (λ x. (told x).0) f) (q ∙ ap (λ x. (told x).1) f) h r fits
 
 -- a file as it is gathered
-pub file_carried_so : (v : FileValue) (page : Option Pfn) (facts : Option Facts) (c : CarriedFile) (token : ℕ) → FileIs v (λ s. MatchOption s (page ≡ None) (IsOnePage page)) → FileIs v (λ s. facts ≡ option_map facts_of s) → c.token.0 ≡ token → c.kind ≡ Memfd → c.order.0 ≡ 0 → c.size ≡ (told facts).0 → c.position ≡ (told facts).1 → c.handle ≡ 0 → c.runs ≡ frame_list page → FileIs v (λ s. IsCarriedAs token s c)
-file_carried_so v page facts c token is f t k o s q h r = go (file_from v.start v.history) is f
+pub file_carried_so : (v : FileValue) (page : Option Pfn) (facts : Option Facts) (c : CarriedFile) (token : ℕ) → FileIs v (λ s. MatchOption s (page ≡ None) (IsOnePage page)) → FileIs v (λ s. facts ≡ option_map facts_of s) → c.token.0 ≡ token → c.kind ≡ Memfd → c.order.0 ≡ 0 → c.size ≡ (told facts).0 → c.position ≡ (told facts).1 → c.handle ≡ 0 → c.runs ≡ frame_list page → c.token.0 < 2 ^ 64 → FileIs v (λ s. IsCarriedAs token s c)
+file_carried_so v page facts c token is f t k o s q h r fits = go (file_from v.start v.history) is f
   where
     go : (x : Option (Option FileState)) → MatchOption x ⊥ (λ s. MatchOption s (page ≡ None) (IsOnePage page)) → MatchOption x ⊥ (λ s. facts ≡ option_map facts_of s) → MatchOption x ⊥ (λ s. IsCarriedAs token s c)
     go None a b = a
-    go (Some x) a b = at_state x page facts c token a b t k o s q h r
+    go (Some x) a b = at_state x page facts c token a b t k o s q h r fits
 
 -- ---- the files of a session
 
@@ -202,9 +209,9 @@ one_session ref objects w xs n d cs cs' c lt h k is =
 
 -- a session with its files
 pub session_so : (objects : List (Option object.Object)) (w : World) (e : List ℕ × ℕ) (c : CarriedSession) (v : SessionValue) (rs : List Reference) → Agrees w objects → object_at objects (session_no e.1) ≡ Some (Session v) → session_content (session_from v.start v.history) ≡ OfFiles rs
-    → AreFilesOf objects w rs c.files → c.name ≡ e.0 → IsSessionOf objects w e c
-session_so objects w e c v rs agrees at content files name =
-    record { name = name; files = subst (λ x. AreFilesOf objects w x c.files) (sym (listed_is objects w e.1 v rs agrees at content)) files }
+    → AreFilesOf objects w rs c.files → c.name ≡ e.0 → IsTrue (is_name c.name) → IsSessionOf objects w e c
+session_so objects w e c v rs agrees at content files name valid =
+    record { name = name; valid = valid; files = subst (λ x. AreFilesOf objects w x c.files) (sym (listed_is objects w e.1 v rs agrees at content)) files }
 
 -- all together
 pub gathered : (kernel : KernelValue) (c : Carried) (v : RegistryValue) (es : List (List ℕ × ℕ)) → object_at kernel.objects registry_no ≡ Some (Registry v) → RegistryIs v (λ s. es ≡ finmap.entries s.outgoing) → c.shape ≡ kernel.shape → c.number ≡ min (kernel.updates + 1) MOST_UPDATES → c.bounds ≡ []
@@ -218,5 +225,13 @@ gathered kernel c v es at names shape number bounds sessions = record {
       subst (λ x. AreSessionsOf kernel.objects w x c.sessions) (st.holds ∙ sym (ap (λ s. finmap.entries s.outgoing) (registry_there w kernel.objects st.state agrees st.is))) (sessions w agrees);
 }
 
-pub some_of : {A : Type 0} (P : A → Type 0) (o : Option A) (x : A) → o ≡ Some x → IfSome o P → P x
-some_of P o x is h = subst (λ y. IfSome y P) is h
+-- the slots of the names that are listed
+pub listed_slots : (kernel : KernelValue) (v : RegistryValue) (es : List (List ℕ × ℕ)) → object_at kernel.objects registry_no ≡ Some (Registry v) → RegistryIs v (λ s. es ≡ finmap.entries s.outgoing) → HaveSlots kernel.objects → All (λ e. e.1 < OUT_SLOTS + IN_SLOTS) es
+listed_slots kernel v es at names slots =
+    let st = registry_stands kernel.objects registry_no v (λ s. es ≡ finmap.entries s.outgoing) at names in
+    subst (All (λ (e : List ℕ × ℕ). e.1 < OUT_SLOTS + IN_SLOTS)) (sym st.holds) (slots st.state st.is)
+
+-- the slot of the name at a place
+pub slot_at : {A : Type 0} → (ref : A → List ℕ × ℕ) (xs : List A) (n : ℕ) (d : A) → n < length xs → All (λ (e : List ℕ × ℕ). e.1 < OUT_SLOTS + IN_SLOTS) (map ref xs) → (ref (get_or xs n d)).1 < OUT_SLOTS + IN_SLOTS
+slot_at ref xs n d lt all =
+    subst (λ (e : List ℕ × ℕ). e.1 < OUT_SLOTS + IN_SLOTS) (get_or-map ref xs n d (ref d) lt) (all n (ref d) (omega (arith, lt, length-map xs ref)))

@@ -68,11 +68,11 @@ carried_is kernel c w ram g agrees number shape handlers holds = λ i. record {
 -- ---- how many frames the records need: the bytes don't count
 
 -- a machine's frames that hold the page of a file
-abbrev ram_for : Option FileState → Ram
+abbrev pub ram_for : Option FileState → Ram
 ram_for None = record { count = 0; page = λ p. [] }
 ram_for (Some f) = record { count = 0; page = λ p. page_of f.bytes }
 
-holds_for : (s : Option FileState) → HoldsPage (ram_for s) s
+pub holds_for : (s : Option FileState) → HoldsPage (ram_for s) s
 holds_for None = tt
 holds_for (Some f) = λ p is. refl
 

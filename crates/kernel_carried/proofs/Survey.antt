@@ -1,13 +1,13 @@
 -- What is known of all files of a kernel.
-use Rattle.std.proofs.Common.{◌≡◌, ℕ, ◌+◌, ◌<◌, Bool, true, false, List, [], ◌∷◌, ◌++◌, map, refl, ap, sym, ◌∙◌, subst, arith, inl, inr, zero, suc, cond}
-use Rattle.std.specs.Prelude.{Option, None, Some, MatchOption, option_map, ◌⊎◌, nat_lt, slice_index_or}
+use Rattle.std.proofs.Common.{◌≡◌, ℕ, ◌+◌, ◌<◌, ◌≤◌, length, Bool, true, false, List, [], ◌∷◌, ◌++◌, map, refl, ap, sym, ◌∙◌, subst, arith, inl, inr, zero, suc, cond}
+use Rattle.std.specs.Prelude.{Option, None, Some, MatchOption, option_map, ◌⊎◌, nat_lt}
 use Rattle.std.specs.FinMap as finmap
 use Rattle.std.specs.List.{All, flat_map}
 use Rattle.std.proofs.lemmas.Bool.Decides.{nat_tests}
 use Rattle.std.proofs.lemmas.Grind.{flat_map-append}
 use Rattle.std.proofs.lemmas.List.Elements.{All-head, All-tail, All-map}
 use Rattle.ho_base.specs.Objects.{file_no, session_no}
-use Rattle.ho_base.specs.declared.limits.TheConstants.{FILES, OUT_SLOTS}
+use Rattle.ho_base.specs.declared.limits.TheConstants.{FILES, OUT_SLOTS, PAGE_BYTES}
 use Rattle.ho_base.specs.declared.numbers.Kind.TheVariants.{Memfd}
 use Rattle.ho_base.specs.declared.numbers.Pfn.{Pfn}
 use Rattle.ho_events.specs.Contents.{Reference, reference_of, OfFiles, session_content}
@@ -23,11 +23,10 @@ use Rattle.session_core.specs.SessionShown.{reference, AreFiles}
 use Rattle.session_core.specs.SessionValues.{SessionValue}
 use Rattle.machine_core.specs.declared.object.Object as object
 use Rattle.machine_core.specs.declared.object.Object.TheVariants.{Session, File}
-use Rattle.machine_core.specs.Gathered.{IsPageOfFile}
 use Rattle.machine_core.specs.Kernels.{object_at}
 use Rattle.machine_core.specs.Worlds.{states_in}
-use Rattle.kernel_carried.specs.Gathered.{Agrees, AreMemfds, IsMemfdIn, ListFiles, NotesPages, listed_in}
-use Rattle.kernel_carried.proofs.Carried.{run_there, listed_is}
+use Rattle.kernel_carried.specs.Gathered.{Agrees, AreMemfds, IsMemfdIn, IsSmall, ListFiles, listed_in}
+use Rattle.kernel_carried.proofs.Carried.{listed_is}
 use Rattle.kernel_carried.proofs.States.{file_stands, file_there}
 
 below : (n k : ℕ) → n < k + 1 → (n < k) ⊎ (n ≡ k)
@@ -50,42 +49,15 @@ none_below P n lt = absurd (omega (arith, lt))
 
 -- ---- memfds
 
-kind_of : (page : Option Pfn) (s : Option FileState) → MatchOption s (page ≡ None) (IsOnePage page) → MatchOption s (Unit {0}) (λ f. f.kind ≡ Memfd)
+kind_of : (page : Option Pfn) (s : Option FileState) → MatchOption s (page ≡ None) (IsOnePage page) → MatchOption s (Unit {0}) IsSmall
 kind_of page None h = tt
-kind_of None (Some f) h = h.0
-kind_of (Some p) (Some f) h = h.0
+kind_of None (Some f) h = record { kind = h.0; order = h.1; size = subst (λ (l : List ℕ). length l ≤ PAGE_BYTES) (sym h.2) (omega arith) }
+kind_of (Some p) (Some f) h = record { kind = h.0; order = h.1; size = h.2 }
 
 pub memfd_in : (objects : List (Option object.Object)) (n : ℕ) (v : FileValue) (page : Option Pfn) → object_at objects (file_no n) ≡ Some (File v) → FileIs v (λ s. MatchOption s (page ≡ None) (IsOnePage page)) → IsMemfdIn (states_in objects (file_no n))
 memfd_in objects n v page at h =
     let st = file_stands objects (file_no n) v (λ s. MatchOption s (page ≡ None) (IsOnePage page)) at h in
     record { state = st.state; is = st.is; memfd = kind_of page st.state st.holds }
-
--- ---- pages
-
-page_of_file : (objects : List (Option object.Object)) (n : ℕ) (page : Option Pfn) (s : Option FileState) (p : ℕ) → states_in objects (file_no n) ≡ Some (FileIn s) → MatchOption s (page ≡ None) (IsOnePage page) → page ≡ Some (record { 0 = p }) → IsPageOfFile objects p
-page_of_file objects n page None p is h e = absurd (no_page (sym h ∙ e))
-  where
-    no_page : ◌≡◌ {A = Option Pfn} None (Some (record { 0 = p })) → ⊥
-    no_page k = absurd cc
-page_of_file objects n None (Some f) p is h e = absurd (no_page e)
-  where
-    no_page : ◌≡◌ {A = Option Pfn} None (Some (record { 0 = p })) → ⊥
-    no_page k = absurd cc
-page_of_file objects n (Some q) (Some f) p is h e =
-    record { number = file_no n; file = f; there = is; page = ap (λ m. finmap.get m 0) h.3 ∙ run_there q.0 ∙ same q e }
-  where
-    same : (q : Pfn) → ◌≡◌ {A = Option Pfn} (Some q) (Some (record { 0 = p })) → Some q.0 ≡ Some p
-    same q k = ap (option_map (λ (x : Pfn). x.0)) k
-
-pub notes_more : (objects : List (Option object.Object)) (n : ℕ) (v : FileValue) (page : Option Pfn) (old mid new : List Bool) → object_at objects (file_no n) ≡ Some (File v) → FileIs v (λ s. MatchOption s (page ≡ None) (IsOnePage page))
-    → NotesPages objects old mid → ((p : ℕ) → slice_index_or new p false ≡ true → (slice_index_or mid p false ≡ true) ⊎ (page ≡ Some (record { 0 = p }))) → NotesPages objects old new
-notes_more objects n v page old mid new at h before one p noted = go (one p noted)
-  where
-    go : (slice_index_or mid p false ≡ true) ⊎ (page ≡ Some (record { 0 = p })) → (slice_index_or old p false ≡ true) ⊎ IsPageOfFile objects p
-    go (inl was) = before p was
-    go (inr is) =
-        let st = file_stands objects (file_no n) v (λ s. MatchOption s (page ≡ None) (IsOnePage page)) at h in
-        inr (page_of_file objects n page st.state p st.is st.holds is)
 
 -- ---- slots
 
@@ -95,9 +67,9 @@ lists_files objects w slot v files agrees at content are =
 
 -- ---- device files
 
-device_none : (name : List ℕ) (e : ℕ × Listed) (s : Option FileState) → MatchOption s (Unit {0}) (λ f. f.kind ≡ Memfd) → preserved_as name e s ≡ []
+device_none : (name : List ℕ) (e : ℕ × Listed) (s : Option FileState) → MatchOption s (Unit {0}) IsSmall → preserved_as name e s ≡ []
 device_none name e None h = refl
-device_none name e (Some f) h = ap (λ k. cond (is_device k) (record { name = name; token = e.0; kind = f.kind; file = e.1.file; handle = e.1.handle } ∷ []) []) h
+device_none name e (Some f) h = ap (λ k. cond (is_device k) (record { name = name; token = e.0; kind = f.kind; file = e.1.file; handle = e.1.handle } ∷ []) []) h.kind
 
 module _ (w : World) (objects : List (Option object.Object)) (memfds : AreMemfds objects) (agrees : Agrees w objects) where
   each_none : (name : List ℕ) (es : List (ℕ × Listed)) → All (λ (r : Reference). r.file < FILES) (map reference_of es) → flat_map (λ e. preserved_as name e (file_at w e.1.file)) es ≡ []

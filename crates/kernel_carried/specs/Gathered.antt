@@ -1,18 +1,19 @@
 -- What of a kernel's objects a kexec carries, as it is gathered from them.
-use Rattle.std.specs.Prelude.{◌≡◌, ◌≢◌, ◌⊎◌, ℕ, ◌+◌, ◌<◌, ◌≤◌, Bool, true, false, slice_index_or, min, List, [], ◌∷◌, length, map, Option, None, Some, MatchOption}
+use Rattle.std.specs.Prelude.{◌≡◌, ◌≢◌, ℕ, ◌+◌, ◌^◌, ◌<◌, ◌≤◌, IsTrue, min, List, [], ◌∷◌, length, map, Option, None, Some, MatchOption}
 use Rattle.std.specs.FinMap as finmap
 use Rattle.std.specs.List.{All}
-use Rattle.ho_base.specs.Objects.{pool_no, file_no}
-use Rattle.ho_base.specs.declared.limits.TheConstants.{FILES, OUT_SLOTS, IN_SLOTS}
+use Rattle.ho_base.specs.NameRule.{is_name}
+use Rattle.ho_base.specs.Objects.{pool_no, registry_no, file_no}
+use Rattle.ho_base.specs.declared.limits.TheConstants.{FILES, OUT_SLOTS, IN_SLOTS, PAGE_BYTES}
 use Rattle.ho_base.specs.declared.numbers.Kind.TheVariants.{Memfd}
 use Rattle.ho_events.specs.Contents.{Reference, reference_of}
 use Rattle.ho_events.specs.File.{FileState}
+use Rattle.ho_events.specs.Registry.{RegistryState}
 use Rattle.ho_events.specs.Session.{files_of}
-use Rattle.ho_world.specs.World.{State, World, FileIn, registry_at, session_at, file_at}
+use Rattle.ho_world.specs.World.{State, World, FileIn, RegistryIn, registry_at, session_at, file_at}
 use Rattle.ho_world.specs.Frozen.{file_carried, MOST_UPDATES}
 use Rattle.memfd_file.specs.Files.{page_of}
 use Rattle.machine_core.specs.declared.object.Object as object
-use Rattle.machine_core.specs.Gathered.{IsPageOfFile}
 use Rattle.machine_core.specs.Kernels.{KernelValue}
 use Rattle.machine_core.specs.Worlds.{states_in}
 use Rattle.record_frames.specs.Ram.{Ram}
@@ -34,13 +35,20 @@ HoldsPage ram (Some f) = (p : ℕ) → finmap.get f.runs 0 ≡ Some p → ram.pa
 abbrev pub HoldsFilesIn : Ram → List (Option object.Object) → Type 0
 HoldsFilesIn ram objects = (n : ℕ) (s : Option FileState) → states_in objects n ≡ Some (FileIn s) → HoldsPage ram s
 
--- a file in this state is carried so under a token: with its page in the frames it is the file as a kexec carries it, and it is a
--- memfd of at most one page
+-- the bytes of a file; none where it isn't there
+abbrev pub bytes_of : Option FileState → List ℕ
+bytes_of None = []
+bytes_of (Some f) = f.bytes
+
+-- a file in this state is carried so under a token: with its page in the frames it is the file as a kexec carries it; it is a memfd of
+-- at most one page, its size is how many bytes it has, and its token has 8 bytes
 pub record IsCarriedAs (token : ℕ) (s : Option FileState) (c : CarriedFile) : Type 0 where
   pub is : (ram : Ram) (handle : ℕ) → HoldsPage ram s → file_in ram c ≡ file_carried token handle s
   pub memfd : c.kind ≡ Memfd
   pub single : c.order.0 ≡ 0
   pub few : length c.runs ≤ 1
+  pub size : c.size ≡ length (bytes_of s)
+  pub fits : c.token.0 < 2 ^ 64
 
 -- a file that a session lists is there among the objects, and is carried so
 pub record IsFileOf (objects : List (Option object.Object)) (w : World) (r : Reference) (c : CarriedFile) : Type 0 where
@@ -56,9 +64,10 @@ AreFilesOf objects w rs cs = ⊥
 abbrev pub listed_in : World → ℕ → List Reference
 listed_in w slot = map reference_of (finmap.entries (files_of (session_at w slot)))
 
--- a session by its name and slot is carried with all its files
+-- a session by its name and slot is carried under this name, which is one, with all its files
 pub record IsSessionOf (objects : List (Option object.Object)) (w : World) (e : List ℕ × ℕ) (c : CarriedSession) : Type 0 where
   pub name : c.name ≡ e.0
+  pub valid : IsTrue (is_name c.name)
   pub files : AreFilesOf objects w (listed_in w e.1) c.files
 
 unfoldable pub AreSessionsOf : List (Option object.Object) → World → List (List ℕ × ℕ) → List CarriedSession → Type 0
@@ -74,24 +83,26 @@ pub record IsGathered (kernel : KernelValue) (c : Carried) : Type 0 where
   pub bounds : c.bounds ≡ []
   pub sessions : (w : World) → Agrees w kernel.objects → AreSessionsOf kernel.objects w (finmap.entries (registry_at w).outgoing) c.sessions
 
--- a slot that an outgoing name has isn't one
-pub record HasWrongSlot (w : World) : Type 0 where
-  pub wrong : All (λ e. e.1 < OUT_SLOTS + IN_SLOTS) (finmap.entries (registry_at w).outgoing) → ⊥
+-- each outgoing name has a slot that is one
+abbrev pub HaveSlots : List (Option object.Object) → Type 0
+HaveSlots objects = (s : RegistryState) → states_in objects registry_no ≡ Some (RegistryIn s) → All (λ e. e.1 < OUT_SLOTS + IN_SLOTS) (finmap.entries s.outgoing)
 
--- the state is that of a file, which is a memfd where it is there
+-- a file is a memfd of order 0 with at most a page of bytes
+pub record IsSmall (f : FileState) : Type 0 where
+  pub kind : f.kind ≡ Memfd
+  pub order : f.order ≡ 0
+  pub size : length f.bytes ≤ PAGE_BYTES
+
+-- the state is that of a file, which is a memfd of at most one page where it is there
 pub record IsMemfdIn (o : Option State) : Type 0 where
   pub state : Option FileState
   pub is : o ≡ Some (FileIn state)
-  pub memfd : MatchOption state (Unit {0}) (λ f. f.kind ≡ Memfd)
+  pub memfd : MatchOption state (Unit {0}) IsSmall
 
--- each file of the objects is a memfd
+-- each file of the objects is a memfd of at most one page
 abbrev pub AreMemfds : List (Option object.Object) → Type 0
 AreMemfds objects = (n : ℕ) → n < FILES → IsMemfdIn (states_in objects (file_no n))
 
 -- the first slots of a world list numbers of files
 abbrev pub ListFiles : World → ℕ → Type 0
 ListFiles w slots = (slot : ℕ) → slot < slots → All (λ (r : Reference). r.file < FILES) (listed_in w slot)
-
--- each frame that is noted in a table was noted before, or is the page of a file of the objects
-abbrev pub NotesPages : List (Option object.Object) → List Bool → List Bool → Type 0
-NotesPages objects old new = (p : ℕ) → slice_index_or new p false ≡ true → (slice_index_or old p false ≡ true) ⊎ IsPageOfFile objects p

@@ -1,18 +1,16 @@
 //! What a kexec carries, gathered from a kernel's objects.
 
-ghost use Rattle.std.specs.Prelude.{◌≡◌, ◌+◌, ◌<◌, ◌≤◌, ℕ, IfOk, IfSome, MatchOption, min, map, length};
+ghost use Rattle.std.specs.Prelude.{◌≡◌, ◌+◌, ◌^◌, ◌<◌, IfOk, map};
 ghost use Rattle.std.specs.List.{All};
 ghost use Rattle.ho_base.specs.declared.limits.TheConstants.{IN_SLOTS, OUT_SLOTS};
 ghost use Rattle.ho_world.specs.Acts.{frame_list};
-ghost use Rattle.ho_world.specs.Frozen.{MOST_UPDATES};
 ghost use Rattle.ho_world.specs.World.{World};
 ghost use Rattle.memfd_file.specs.FileValues.{FileIs};
 ghost use Rattle.registry_core.specs.Outgoing.{with_number};
 ghost use Rattle.session_core.specs.SessionShown.{reference, AreFiles};
-ghost use Rattle.kernel_carried.specs.Gathered.{Agrees, AreFilesOf, AreSessionsOf, HasWrongSlot, IsCarriedAs, IsGathered, IsSessionOf};
+ghost use Rattle.kernel_carried.specs.Gathered.{Agrees, AreFilesOf, AreSessionsOf, HaveSlots, IsCarriedAs, IsGathered, IsSessionOf};
 
 use ho_base::Items;
-use ho_base::limits::{IN_SLOTS, OUT_SLOTS};
 use ho_base::name::Name;
 use ho_base::numbers::{FileNo, Kind, NoMemory, Order, Pfn, SlotNo, Token};
 use ho_base::shape::Shape;
@@ -34,10 +32,16 @@ fn runs_of(alloc: Global, page: Option<Pfn>) -> Result<Items<Pfn>, NoMemory>
     Ok(Items::from_vec(runs))
 }
 
+/// A token has 8 bytes. Nothing is done.
+fn fits(token: Token)
+    ensures { token.0 < 2 ^ 64 }
+{}
+
 /// A file as it is carried under a token. One that isn't there is carried as an empty memfd.
 fn carried_file(alloc: Global, file: &FileObject, token: Token) -> Result<CarriedFile, NoMemory>
     ensures { IfOk result (λ c. FileIs file.now (λ s. IsCarriedAs token.0 s c)) }
 {
+    fits(token);
     let page = file.page();
     let runs = runs_of(alloc, page)?;
     let (size, position) = match file.facts() {
@@ -85,30 +89,29 @@ fn carried_session(
     requires { slot.0 < OUT_SLOTS + IN_SLOTS }
     ensures { IfOk result (λ c. (w : World) → Agrees w kernel.now.objects → IsSessionOf kernel.now.objects w (with_number (name, slot)) c) }
 {
+    let _bytes = name.as_bytes();
     let files = carried_files(alloc, kernel, kernel.session(slot).files())?;
     Ok(CarriedSession { name, files })
 }
 
-/// The sessions of names, in their slots, as they are carried. None exactly where a slot isn't one.
+/// The sessions of names, in their slots, as they are carried.
 fn carried_sessions(
     alloc: Global,
     kernel: &Kernel,
     names: &[(Name, SlotNo)],
-) -> Result<Option<Items<CarriedSession>>, NoMemory>
-    ensures { IfOk result (λ o. IfSome o (λ cs. (w : World) → Agrees w kernel.now.objects → AreSessionsOf kernel.now.objects w (map with_number names.now) cs)) }
+) -> Result<Items<CarriedSession>, NoMemory>
+    requires { All (λ e. e.1 < OUT_SLOTS + IN_SLOTS) (map with_number names.now) }
+    ensures { IfOk result (λ cs. (w : World) → Agrees w kernel.now.objects → AreSessionsOf kernel.now.objects w (map with_number names.now) cs) }
 {
     let mut sessions = Vec::new(alloc);
     for entry in names {
         let (name, slot) = *entry;
-        if u32::from(slot.0) >= OUT_SLOTS + IN_SLOTS {
-            return Ok(None);
-        }
         let carried = carried_session(alloc, kernel, name, slot)?;
         if sessions.push(carried).is_err() {
             return Err(NoMemory);
         }
     }
-    Ok(Some(Items::from_vec(sessions)))
+    Ok(Items::from_vec(sessions))
 }
 
 /// A shape again.
@@ -126,20 +129,18 @@ fn same_shape(alloc: Global, shape: &Shape) -> Result<Shape, NoMemory>
 }
 
 /// What a kexec carries of a kernel: each outgoing session in rising names, with its files in rising tokens. A file that isn't
-/// there is carried as an empty memfd. None where an outgoing name has a slot that isn't one. It looks at each carried
-/// file once, and at no byte of it.
-pub fn carried_of(alloc: Global, kernel: &Kernel) -> Result<Option<Carried>, NoMemory>
-    ensures { IfOk result (λ o. IfSome o (IsGathered kernel.now)) }
+/// there is carried as an empty memfd. It looks at each carried file once, and at no byte of it.
+pub fn carried_of(alloc: Global, kernel: &Kernel) -> Result<Carried, NoMemory>
+    requires slots { HaveSlots kernel.now.objects }
+    ensures { IfOk result (IsGathered kernel.now) }
 {
     let names = kernel.registry().outgoing(alloc)?;
-    let Some(sessions) = carried_sessions(alloc, kernel, names.as_slice())? else {
-        return Ok(None);
-    };
-    Ok(Some(Carried {
+    let sessions = carried_sessions(alloc, kernel, names.as_slice())?;
+    Ok(Carried {
         shape: same_shape(alloc, kernel.pool().shape())?,
         number: kernel.updates().saturating_add(1),
         sessions,
         bounds: Items::new(alloc),
         working: Items::new(alloc),
-    }))
+    })
 }

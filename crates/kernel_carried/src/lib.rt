@@ -4,5 +4,5 @@
 mod files;
 mod gathering;
 
-pub use files::{has_no_devices, note_pages};
+pub use files::has_no_devices;
 pub use gathering::carried_of;

@@ -6,7 +6,7 @@ use std::alloc::{AllocError, Global};
 use std::test::Fail;
 
 // Two kexecs, of which the second finds too small a scratch area, and a third.
-const SCRIPT: &[u8] = b"machine 32\n\
+pub const SCRIPT: &[u8] = b"machine 32\n\
 scratch 1 4\n\
 round\n\
 agent a\n\
@@ -19,7 +19,7 @@ kexec 1 5\n\
 kexec 2 4\n";
 
 // The words of a run of `s` with images.
-fn image_words(alloc: Global) -> Result<Vec<String>, AllocError> {
+pub fn image_words(alloc: Global) -> Result<Vec<String>, AllocError> {
     let mut words = run_words(alloc)?;
     words.push(String::from_str(alloc, "--images")?)?;
     words.push(String::from_str(alloc, "k")?)?;

@@ -1,5 +1,4 @@
-use Rattle.std.proofs.Common.{refl, sym, ap, ◌∙◌}
-use Rattle.ho_base.specs.Objects.{pool_no}
+use Rattle.std.proofs.Common.{refl, ap, ◌∙◌}
 use Rattle.machine_core.specs.Kernels.{KernelValue, starts_in}
 use Rattle.machine_core.specs.Plain.{agent_of, anchor_of}
 use Rattle.freeze_path.proofs.Reached.{Ran, begins_ready, ended_hands, ended_on, ended_still}

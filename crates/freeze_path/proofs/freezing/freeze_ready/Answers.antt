@@ -1,4 +1,4 @@
-use Rattle.std.proofs.Common.{subst, ap, sym, ◌∙◌, refl, length}
+use Rattle.std.proofs.Common.{subst, ap, sym, ◌∙◌, length}
 use Rattle.kho_writer.specs.Folios.{HasRoom, OtherBytes}
 use Rattle.freeze_path.specs.Ready.{TookOn, folios_of}
 use Rattle.freeze_path.proofs.Results.{need_some, has_room, froze, did_few}

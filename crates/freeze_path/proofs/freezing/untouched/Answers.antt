@@ -1,4 +1,4 @@
-use Rattle.std.proofs.Common.{refl, sym, ap, ◌∙◌}
+use Rattle.std.proofs.Common.{ap}
 use Rattle.machine_core.specs.Kernels.{KernelValue, starts_in}
 use Rattle.machine_core.specs.Plain.{agent_of, anchor_of}
 use Rattle.freeze_path.proofs.Reached.{Ran, no_entries, nothing_done, untouched_still}

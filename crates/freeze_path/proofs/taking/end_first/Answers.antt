@@ -1,4 +1,3 @@
-use Rattle.std.proofs.Common.{refl}
 use Rattle.freeze_path.proofs.TakeSteps.{only_room, after_room}
 use Rattle.freeze_path.proofs.taking.end_first.Goals as goal
 

@@ -1,4 +1,4 @@
-use Rattle.std.proofs.Common.{refl, []}
+use Rattle.std.proofs.Common.{[]}
 use Rattle.luo_calls.specs.Takes.{TookWith}
 use Rattle.luo_calls.proofs.PoolHalts.{claimed_open}
 use Rattle.luo_calls.proofs.Taken.{took_some, took_none, no_frames}

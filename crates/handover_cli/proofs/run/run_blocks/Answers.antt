@@ -4,14 +4,15 @@ use Rattle.std.specs.Prelude.{option_map}
 use Rattle.ho_world.specs.World.{cold}
 use Rattle.handover_cli.specs.Images.{seen}
 use Rattle.handover_cli.proofs.ImagesMade.{all_asks, short_asks, part_asks}
+use Rattle.sound_histories.proofs.Standing.{cold_stands}
 use Rattle.handover_cli.proofs.NextKernels.{did_at, numbers_fit}
-use Rattle.handover_cli.proofs.Written.{stands_first, stands_more, stands_all, stands_part, written_short, unwritten_short, stands_memory, goes_on, next_number}
+use Rattle.handover_cli.proofs.Written.{stands_first, stands_more, stands_all, stands_part, written_short, unwritten_short, stands_memory, stands_sound, goes_on, next_number}
 use Rattle.handover_cli.proofs.Rounds.{item_at}
 use Rattle.handover_cli.proofs.run.run_blocks.Goals as goal
 
 pub loop-block-init : goal.loop-block-init
 loop-block-init g c = record {
-  stands = stands_first _ _ _ _ _ c.requires.cold;
+  stands = stands_first _ _ _ _ _ c.requires.cold (cold_stands c.args.kernel.shape c.args.blocks.now);
   number = refl;
   counts = omega arith;
   sinks = refl;
@@ -71,3 +72,6 @@ returns-clause-legal g c = λ _. stands_all _ _ c.loop-block.block-index c.loop-
 
 pub returns-clause-asked : goal.returns-clause-asked
 returns-clause-asked g c = all_asks _ _ _ _ _ (stands_all _ _ c.loop-block.block-index c.loop-block.kernel _ _ _ (omega (arith, c.loop-block-test.false, c.loop-block.auto.block-index-end)) c.loop-block.invariant.stands)
+
+pub run_block-requires-clause-sound : goal.run_block-requires-clause-sound
+run_block-requires-clause-sound g c = stands_sound _ _ c.loop-block.block-index c.loop-block.kernel _ _ _ c.loop-block.invariant.stands

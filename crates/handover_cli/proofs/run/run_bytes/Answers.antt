@@ -1,5 +1,6 @@
 -- What was written is of a script that isn't refused, or of the line of a refusal.
-use Rattle.std.proofs.Common.{inl, inr, sym, subst}
+use Rattle.std.proofs.Common.{true, inl, inr, sym, subst}
+use Rattle.sound_histories.proofs.Standing.{read_is_sound}
 use Rattle.handover_cli.specs.Asked.{AsksImages}
 use Rattle.handover_cli.proofs.ImagesMade.{no_asks}
 use Rattle.handover_cli.proofs.DueTexts.{accepted, refused, front_by, refusal_told, line_due}
@@ -28,3 +29,6 @@ returns-in-Err-Bad-clause-asked g c = subst (AsksImages _ _) (sym c.refuse_line.
 
 pub returns-in-Err-Memory-clause-asked : goal.returns-in-Err-Memory-clause-asked
 returns-in-Err-Memory-clause-asked g c = no_asks _ _
+
+pub run_history-requires-clause-sound : goal.run_history-requires-clause-sound
+run_history-requires-clause-sound g c = read_is_sound true c.args.bytes.now c.in-Ok.script c.in-Ok.ensures.ok

@@ -8,7 +8,7 @@ use Rattle.handover_cli.proofs.run.run_history.Goals as goal
 
 pub run_blocks-requires-clause-blocks : goal.run_blocks-requires-clause-blocks
 run_blocks-requires-clause-blocks g c =
-    subst CanRun (sym c.as_slice.ensures) (can_run c.args.script c.requires.built c.requires.numbered c.requires.single c.requires.small)
+    subst CanRun (sym c.as_slice.ensures) (can_run c.args.script c.requires.built c.requires.numbered c.requires.single c.requires.small c.requires.sound)
 
 pub run_blocks-requires-clause-cold : goal.run_blocks-requires-clause-cold
 run_blocks-requires-clause-cold g c =
