@@ -1,5 +1,5 @@
 -- The states that parts of a file show.
-use Rattle.std.proofs.Common.{◌≡◌, ℕ, zero, suc, ◌+◌, ◌-◌, ◌*◌, ◌/◌, ◌^◌, ◌<◌, ◌≤◌, ◌==◌, nat_lt, Bool, true, false, not, ◌&&◌, if◌then◌else◌, List, [], filter, length, take, drop, replicate, refl, ap, sym, ◌∙◌, arith}
+use Rattle.std.proofs.Common.{◌≡◌, ℕ, zero, suc, ◌+◌, ◌-◌, ◌*◌, ◌/◌, ◌^◌, ◌<◌, ◌≤◌, ◌==◌, nat_lt, max, Bool, true, false, not, ◌&&◌, ◌||◌, if◌then◌else◌, List, [], filter, length, take, drop, replicate, refl, ap, sym, subst, ◌∙◌, arith}
 use Rattle.std.specs.Prelude.{Option}
 use Rattle.std.specs.Ordering.{nat_cmp}
 use Rattle.std.specs.Cmp.{nat_cmp_total}
@@ -15,15 +15,15 @@ use Rattle.ho_base.specs.declared.numbers.Pfn.{Pfn}
 use Rattle.phys_frames.specs.Homes.{HomeId}
 use Rattle.phys_frames.specs.Memory.{FolioValue}
 use Rattle.ho_events.specs.Lists.{pieces, upto, between, firsts}
-use Rattle.ho_events.specs.File.{FileState, touched_holes, overwritten, extended, filled, new_file, is_frozen, grows_frozen, holes, indexes}
+use Rattle.ho_events.specs.File.{FileState, index_bytes, is_too_big, touched_holes, overwritten, extended, filled, new_file, is_frozen, grows_frozen, holes, indexes}
 use Rattle.file_folios.specs.Slots.{places, holes_in, all_bytes, runs_in, AreSlots}
 use Rattle.file_folios.specs.Sized.{bytes_of, places_of}
 use Rattle.file_folios.specs.FileParts.{piece_bytes, state_of, KeepsFile}
-use Rattle.file_folios.specs.FileAnswers.{written_state, pinned_state, facts_of}
+use Rattle.file_folios.specs.FileAnswers.{written_state, pinned_state, facts_of, more_indexes, wanted_indexes}
 use Rattle.file_folios.specs.declared.facts.Facts.{Facts}
 use Rattle.file_folios.proofs.Ranges.{page_read}
 use Rattle.file_folios.proofs.Places.{between_is, indexes_are}
-use Rattle.file_folios.proofs.Extended.{pieces_least}
+use Rattle.file_folios.proofs.Extended.{pieces_least, pieces_rise}
 use Rattle.file_folios.proofs.Sizes.{bytes_long, enough}
 use Rattle.file_folios.proofs.SlotRuns.{holes_are, run_get}
 
@@ -160,3 +160,30 @@ pinned_keeps home order size slots now k long are same = record {
     zeros = same ∙ k.holds.zeros ∙ ap (λ b. extended (length slots * piece_bytes order) (take size b)) (sym same) ∙ ap (λ n. extended (n * piece_bytes order) (bytes_of (piece_bytes order) size now)) (sym long);
   };
 }
+
+-- how many more indexes a range needs that isn't refused
+module _ (s : FileState) (end : ℕ) where
+  abbrev p : ℕ
+  p = index_bytes s
+
+  more_are : (b : Bool) → nat_lt (length s.bytes) end ≡ b → 0 < p → pieces end p - pieces (length s.bytes) p ≡ more_indexes s end
+  more_are true e some =
+      let greater : end ≡ max (length s.bytes) end = grind (arith, nat_tests) in
+      ap (λ n. pieces n p - pieces (length s.bytes) p) greater
+  more_are false e some =
+      let le : end ≤ length s.bytes = grind (arith, nat_tests) in
+      let same : length s.bytes ≡ max (length s.bytes) end = omega (arith, le) in
+      let rise : pieces end p ≤ pieces (length s.bytes) p = pieces_rise end (length s.bytes) p some le in
+      let none : pieces end p - pieces (length s.bytes) p ≡ pieces (length s.bytes) p - pieces (length s.bytes) p = omega (arith, rise) in
+      none ∙ ap (λ n. pieces n p - pieces (length s.bytes) p) same
+
+  pub wanted_are : (order : Order) (piece wanted count : ℕ) → s.order ≡ order.0 → piece ≡ piece_bytes order → end ≤ FILE_BYTES → grows_frozen s end ≡ false → wanted ≡ pieces end piece → count ≡ pieces (length s.bytes) p →
+      wanted - count ≡ wanted_indexes s end
+  wanted_are order piece wanted count same is within free w c =
+      let fits : is_too_big end ≡ false = grind (arith, nat_tests) in
+      let some : 0 < p = subst (λ n. 0 < PAGE_BYTES * 2 ^ n) (sym same) (piece_some order) in
+      let is_p : piece ≡ p = is ∙ ap (λ n. PAGE_BYTES * 2 ^ n) (sym same) in
+      ap (λ n. n - count) (w ∙ ap (pieces end) is_p) ∙ ap (λ n. pieces end p - n) c
+      ∙ more_are (nat_lt (length s.bytes) end) refl some
+      ∙ ap (λ b. if b then 0 else more_indexes s end) (sym free)
+      ∙ ap (λ b. if b || grows_frozen s end then 0 else more_indexes s end) (sym fits)

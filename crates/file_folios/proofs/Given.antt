@@ -86,6 +86,12 @@ cut_runs_are s slots size n same is =
 pub cut_count : (s : FileState) (slots : List (Option FolioValue)) (size n : ℕ) → s.runs ≡ runs_in slots → pieces size (index_bytes s) ≡ n → length (cut_runs s size) ≡ length (folios_in (drop n slots))
 cut_count s slots size n same is = ap length (cut_runs_are s slots size n same is) ∙ length-map (first_frames (folios_in (drop n slots))) (λ r. r.0) ∙ length-map (folios_in (drop n slots)) (λ f. f.first)
 
+-- no more than there are slots
+pub cut_few : (s : FileState) (slots : List (Option FolioValue)) (size n : ℕ) → s.runs ≡ runs_in slots → length slots ≡ n → length (cut_runs s size) ≤ n
+cut_few s slots size n same long =
+    let m : ℕ = pieces size (index_bytes s) in
+    omega (arith, cut_count s slots size m same refl, folios_few (drop m slots), length-drop m slots)
+
 module _ (home : HomeId) (order : Order) (size : ℕ) (slots : List (Option FolioValue)) (k : KeepsFile home order size slots) (s : FileState) (same_order : s.order ≡ order.0) (same_bytes : s.bytes ≡ bytes_of (piece_bytes order) size slots) where
   past_end : (n : ℕ) (b : Bool) → nat_le n (length slots) ≡ b → folios_in (drop n slots) ≡ map (λ run. folio_at s home run) (entries_from n (drop n slots))
   past_end n true e =

@@ -5,10 +5,9 @@ use Rattle.std.specs.Option.{MatchOption}
 use Rattle.std.proofs.lemmas.List.{append-nil, drop_more, drop_all, get_or_at, set_at, length-append, length-drop, length-replicate, replicate-append-replicate}
 use Rattle.ho_base.specs.declared.numbers.Order.{Order}
 use Rattle.phys_frames.specs.Homes.{HomeId}
-use Rattle.phys_frames.specs.Memory.{FolioValue, Memory, RunOut, with_folio}
+use Rattle.phys_frames.specs.Memory.{FolioValue, Memory}
 use Rattle.file_folios.specs.Slots.{slot_at, folios_in, slot_list, given_home, with_folios, AreOut, IsSlot, AreSlots}
 use Rattle.file_folios.proofs.Cutting.{folios_at, past_folios}
-use Rattle.file_folios.proofs.Runs.{run_before}
 
 given_list : (m : Memory) (s : Option FolioValue) (folios : List FolioValue) → with_folios (given_home m s) folios ≡ with_folios m (slot_list s ++ folios)
 unfolding with_folios
@@ -23,14 +22,9 @@ same_home : (m : Memory) (s : Option FolioValue) → (given_home m s).home ≡ m
 same_home m None = refl
 same_home m (Some f) = refl
 
--- a run that is out where a folio came home was out before
-out_before : (m : Memory) (f : FolioValue) (folios : List FolioValue) → RunOut m f.first f.order → AreOut (with_folio m f) folios → AreOut m folios
-out_before m f [] were h = tt
-out_before m f (g ∷ folios) were h = (run_before m f g.first g.order were h.0, out_before m f folios were h.1)
-
 out_list : (m : Memory) (s : Option FolioValue) (folios : List FolioValue) → AreOut m (slot_list s) → AreOut (given_home m s) folios → AreOut m (slot_list s ++ folios)
 out_list m None folios were h = h
-out_list m (Some f) folios were h = (were.0, out_before m f folios were.0 h)
+out_list m (Some f) folios were h = (were.0, h)
 
 -- the folios below an index came home
 pub record Giving (before : Memory) (old : List (Option FolioValue)) (at : ℕ) (now : List (Option FolioValue)) (m : Memory) : Type 0 where

@@ -12,7 +12,6 @@ pub mod Lists
 pub mod Places
 pub mod Ranges
 pub mod Reading
-pub mod Runs
 pub mod Setting
 pub mod Sizes
 pub mod SlotBytes

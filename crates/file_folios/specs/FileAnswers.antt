@@ -1,5 +1,5 @@
 -- What a file over folios answers.
-use Rattle.std.specs.Prelude.{◌≡◌, ℕ, ◌+◌, ◌-◌, ◌*◌, ◌^◌, ◌<◌, max, min, not, nat_le, filter, true, false, ◌==◌, ◌&&◌, nat_lt, if◌then◌else◌, List, [], length, map, take, drop}
+use Rattle.std.specs.Prelude.{◌≡◌, ℕ, ◌+◌, ◌-◌, ◌*◌, ◌^◌, ◌<◌, max, min, not, nat_le, filter, true, false, ◌==◌, ◌&&◌, ◌||◌, nat_lt, if◌then◌else◌, List, [], length, map, take, drop}
 use Rattle.std.specs.FinMap as finmap
 use Rattle.ho_base.specs.declared.limits.TheConstants.{PAGE_BYTES}
 use Rattle.ho_base.specs.declared.numbers.Pfn.{Pfn}
@@ -32,6 +32,10 @@ AreFillsOf home order folios = AreBlank home (record { 0 = order }) (PAGE_BYTES 
 -- how many more indexes a file needs that reaches to an end
 abbrev pub more_indexes : FileState → ℕ → ℕ
 more_indexes f end = pieces (max (length f.bytes) end) (index_bytes f) - pieces (length f.bytes) (index_bytes f)
+
+-- how many more indexes a file needs for a range, or a size, up to an end: none where that is refused
+abbrev pub wanted_indexes : FileState → ℕ → ℕ
+wanted_indexes f end = (if is_too_big end || grows_frozen f end then 0 else more_indexes f end)
 
 -- for how many indexes a file has memory: those below its size, and those that there is room for. What changes the size
 -- leaves it as large at least, so the room falls by the new indexes at most

@@ -90,10 +90,10 @@ unfoldable pub with_folios : Memory → List FolioValue → Memory
 with_folios m [] = m
 with_folios m (folio ∷ folios) = with_folios (with_folio m folio) folios
 
--- each frame of the folios is out
+-- each frame of each folio is out when the folio's turn comes to come home: so no two share a frame
 abbrev pub AreOut : Memory → List FolioValue → Type 0
 AreOut m [] = Unit {0}
-AreOut m (folio ∷ folios) = RunOut m folio.first folio.order × AreOut m folios
+AreOut m (folio ∷ folios) = RunOut m folio.first folio.order × AreOut (with_folio m folio) folios
 
 abbrev pub given_home : Memory → Option FolioValue → Memory
 given_home m None = m

@@ -1,14 +1,15 @@
 //! Files over folios.
 
-ghost use Rattle.std.specs.Prelude.{◌≡◌, ◌+◌, ◌<◌, ◌≤◌, [], Some, OnOk, length, take, drop, option_map, vec_len, vec_capacity};
+ghost use Rattle.std.specs.Prelude.{◌≡◌, ℕ, ◌+◌, ◌<◌, ◌≤◌, [], Some, OnOk, length, take, drop, option_map, vec_len, vec_capacity};
 ghost use Rattle.std.specs.FinMap as finmap;
 ghost use Rattle.ho_base.specs.declared.limits.TheConstants.{MAX_ORDER, FILE_BYTES};
 ghost use Rattle.ho_base.specs.declared.numbers.Kind.TheVariants.{Memfd};
-ghost use Rattle.ho_events.specs.File.{file_step, new_file, is_device, is_frozen, grows_frozen, touched_holes};
+ghost use Rattle.ho_events.specs.File.{file_step, new_file, is_device, cut_runs, index_bytes, is_frozen, grows_frozen, runs_of, touched_holes};
+ghost use Rattle.ho_events.specs.Lists.{pieces};
 ghost use Rattle.ho_events.specs.declared.event.Event.TheVariants.{FileWrite, FileRead, FileSeek, FileTell};
 ghost use Rattle.ho_events.specs.declared.reply.Reply.TheVariants.{OkAt};
 ghost use Rattle.phys_frames.specs.Memory.{first_frames};
-ghost use Rattle.file_folios.specs.FileAnswers.{facts_of, AreFillsOf, more_indexes, memory_of, write_answer, read_answer, seek_answer, written_state, fills_used, fills_left};
+ghost use Rattle.file_folios.specs.FileAnswers.{facts_of, AreFillsOf, more_indexes, wanted_indexes, memory_of, write_answer, read_answer, seek_answer, written_state, fills_used, fills_left};
 
 use crate::facts::Facts;
 use crate::sized::{overwrite, piece_of, pieces_of};
@@ -20,6 +21,7 @@ use ho_events::reply::Reply;
 use phys_frames::{Folio, Home};
 use std::alloc::Global;
 use std::marker::Model;
+use std::snapshot::Snapshot;
 
 /// A file of any order and up to [`FILE_BYTES`] bytes over folios, with holes. It is linear, since it has folios: its
 /// end is [`FileFolios::give_up`]. Contracts see its state, the home of every folio that it is given, and for how many
@@ -37,7 +39,7 @@ pub struct FileFolios {
     pub(crate) pin: bool,
     /// Whether an incoming session has it.
     pub(crate) hold: bool,
-    pub(crate) home: Home,
+    pub(crate) home: Snapshot<Home>,
     /// The folio of each index up to the size; none where there is a hole.
     pub(crate) slots: Vec<Option<Folio>>,
 }
@@ -54,17 +56,18 @@ impl Model for FileFolios {
 
     ghost coded = { Prim.hlevel (codes, finmap.code) };
 
-    ghost view = { λ f. record { state = state_of f.kind f.order f.size f.position f.opened f.pin f.hold f.slots.items; home = f.home; room = vec_capacity f.slots - vec_len f.slots } };
+    ghost view = { λ f. record { state = state_of f.kind f.order f.size f.position f.opened f.pin f.hold f.slots.items; home = f.home.value; room = vec_capacity f.slots - vec_len f.slots } };
 
-    ghost invariant = { λ f. KeepsFile f.home f.order f.size f.slots.items };
+    ghost invariant = { λ f. KeepsFile f.home.value f.order f.size f.slots.items };
 }
 
 impl FileFolios {
     /// An open memfd of an order with no bytes, at position 0. It takes no memory.
-    pub fn new(home: Home, order: Order, alloc: Global) -> FileFolios
+    pub fn new(alloc: Global, home: &Home, order: Order) -> FileFolios
         requires { order.0 ≤ MAX_ORDER }
         ensures state { result.state ≡ new_file Memfd order.0 0 [] }
-        ensures home { result.home ≡ home }
+        ensures home { result.home ≡ home.now }
+        ensures room { result.room ≡ 0 }
     {
         FileFolios {
             kind: Kind::Memfd,
@@ -74,7 +77,7 @@ impl FileFolios {
             opened: true,
             pin: false,
             hold: false,
-            home,
+            home: Snapshot::of(home),
             slots: Vec::new(alloc),
         }
     }
@@ -138,6 +141,32 @@ impl FileFolios {
         )
     }
 
+    /// How many indexes there are below the size. A file has no more runs, and a new size gives up no more.
+    pub fn index_count(&self) -> u32
+        ensures value { result ≡ pieces (length self.now.state.bytes) (index_bytes self.now.state) }
+        ensures runs { length (runs_of self.now.state) ≤ result }
+        ensures cut { (size : ℕ) → length (cut_runs self.now.state size) ≤ result }
+    {
+        self.slots.len() as u32
+    }
+
+    /// How many more indexes the file needs for a range of bytes, or for a size with an empty range: none where that is
+    /// refused.
+    pub fn wanted_indexes(&self, off: u32, len: u32) -> u32
+        ensures { result ≡ wanted_indexes self.now.state (off + len) }
+    {
+        let end = off as u64 + len as u64;
+        if end > FILE_BYTES as u64 {
+            return 0;
+        }
+        if self.is_frozen_below(end as u32) {
+            return 0;
+        }
+        let wanted = pieces_of(end as u32, piece_of(self.order));
+        let count = self.index_count();
+        if wanted > count { wanted - count } else { 0 }
+    }
+
     /// Whether the size can't change: a session has the file, or it is a device file.
     pub fn is_frozen(&self) -> bool
         ensures { result ≡ is_frozen self.now.state }
@@ -169,7 +198,7 @@ impl FileFolios {
         requires count { 0 < vec_len fills.old → vec_len fills.old ≡ length (touched_holes self.old.state off (length bytes.now)) }
         requires empty { runs.old.items ≡ [] }
         requires runs_room { vec_len fills.old ≤ vec_capacity runs.old }
-        requires room { more_indexes self.old.state (off + length bytes.now) ≤ self.old.room }
+        requires room { wanted_indexes self.old.state (off + length bytes.now) ≤ self.old.room }
         ensures answer { result ≡ write_answer self.old.state off (length bytes.now) (vec_len fills.old) }
         ensures step { file_step (Some self.old.state) (FileWrite off bytes.now runs.new.items) result ≡ Some (Some self.new.state) }
         ensures used { runs.new.items ≡ first_frames (fills_used result fills.old.items) }

@@ -14,6 +14,7 @@ use crate::sized::{clear_past, piece_of};
 use ho_base::numbers::{Kind, Order};
 use phys_frames::{Folio, Home};
 use std::alloc::Global;
+use std::snapshot::Snapshot;
 
 impl FileFolios {
     /// A file that an earlier kernel handed over: an incoming session has it, and no label and no outgoing session has.
@@ -21,7 +22,7 @@ impl FileFolios {
     /// last folio is made zero. Where there is no memory for as many indexes, the folios come back as they are.
     pub fn held(
         alloc: Global,
-        home: Home,
+        home: &Home,
         kind: Kind,
         order: Order,
         size: u32,
@@ -32,12 +33,13 @@ impl FileFolios {
         requires within { size ≤ FILE_BYTES }
         requires position { position ≤ size }
         requires count { length folios.items ≡ pieces size (PAGE_BYTES * 2 ^ order.0) }
-        requires of_home { AreOf home folios.items }
+        requires of_home { AreOf home.now folios.items }
         requires of_order { All (λ f. f.order ≡ order) folios.items }
         ensures state { IfOk result (λ f. f.state ≡ held_file kind order.0 size position folios.items) }
-        ensures home { IfOk result (λ f. f.home ≡ home) }
+        ensures home { IfOk result (λ f. f.home ≡ home.now) }
         ensures back { IfErr result (λ back. back.items ≡ folios.items) }
     {
+        let home = Snapshot::of(home);
         match slots_of(alloc, &home, order, folios) {
             Ok(slots) => Ok(with_slots(home, kind, order, size, position, slots)),
             Err(folios) => Err(folios),
@@ -47,7 +49,7 @@ impl FileFolios {
 
 /// The file of such slots.
 fn with_slots(
-    home: Home,
+    home: Snapshot<Home>,
     kind: Kind,
     order: Order,
     size: u32,
@@ -57,9 +59,9 @@ fn with_slots(
     requires small { order.0 ≤ MAX_ORDER }
     requires within { size ≤ FILE_BYTES }
     requires count { vec_len slots ≡ pieces size (PAGE_BYTES * 2 ^ order.0) }
-    requires slots { AreSlots home order (PAGE_BYTES * 2 ^ order.0) slots.items }
+    requires slots { AreSlots home.value order (PAGE_BYTES * 2 ^ order.0) slots.items }
     ensures state { result.state ≡ state_of kind order size position false false true slots.items }
-    ensures home { result.home ≡ home }
+    ensures home { result.home ≡ home.value }
 {
     clear_past(&mut slots, &home, order, piece_of(order), size);
     FileFolios {
@@ -78,14 +80,14 @@ fn with_slots(
 /// Folios as slots, in their order. They come back where there is no memory.
 fn slots_of(
     alloc: Global,
-    home: &Home,
+    home: &Snapshot<Home>,
     order: Order,
     folios: Vec<Folio>,
 ) -> Result<Vec<Option<Folio>>, Vec<Folio>>
-    requires of_home { AreOf home.now folios.items }
+    requires of_home { AreOf home.now.value folios.items }
     requires of_order { All (λ f. f.order ≡ order) folios.items }
     ensures items { IfOk result (λ v. v.items ≡ map (λ f. Some f) folios.items) }
-    ensures slots { IfOk result (λ v. AreSlots home.now order (PAGE_BYTES * 2 ^ order.0) v.items) }
+    ensures slots { IfOk result (λ v. AreSlots home.now.value order (PAGE_BYTES * 2 ^ order.0) v.items) }
     ensures back { IfErr result (λ v. v.items ≡ folios.items) }
 {
     let Ok(mut slots) = Vec::with_capacity(alloc, folios.len()) else {

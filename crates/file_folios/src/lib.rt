@@ -3,6 +3,7 @@
 
 mod facts;
 mod file;
+mod going_home;
 mod holding;
 mod same_byte;
 mod sized;

@@ -6,7 +6,7 @@ ghost use Rattle.ho_events.specs.Lists.{pieces, firsts};
 ghost use Rattle.ho_events.specs.File.{file_step, filled, overwritten, touched_holes};
 ghost use Rattle.ho_events.specs.declared.event.Event.TheVariants.{FileFill};
 ghost use Rattle.phys_frames.specs.Memory.{first_frames, with_bytes, written};
-ghost use Rattle.file_folios.specs.FileAnswers.{AreFillsOf, more_indexes, memory_of, write_answer, written_state, fills_used, fills_left};
+ghost use Rattle.file_folios.specs.FileAnswers.{AreFillsOf, more_indexes, wanted_indexes, memory_of, write_answer, written_state, fills_used, fills_left};
 ghost use Rattle.file_folios.specs.Slots.{slot_at, is_hole, holes_in, all_bytes, runs_in, AreBlank, AreSlots};
 ghost use Rattle.file_folios.specs.Sized.{HoldsBytes, bytes_of, places_of};
 
@@ -17,6 +17,7 @@ use ho_base::limits::FILE_BYTES;
 use ho_base::numbers::{Order, Pfn};
 use ho_events::reply::Reply;
 use phys_frames::{Folio, Home};
+use std::snapshot::Snapshot;
 
 impl FileFolios {
     /// Writes the same byte as often as asked for, at an offset: as [`FileFolios::write`] of so many bytes, without a
@@ -35,7 +36,7 @@ impl FileFolios {
         requires count { 0 < vec_len fills.old → vec_len fills.old ≡ length (touched_holes self.old.state off len) }
         requires empty { runs.old.items ≡ [] }
         requires runs_room { vec_len fills.old ≤ vec_capacity runs.old }
-        requires room { more_indexes self.old.state (off + len) ≤ self.old.room }
+        requires room { wanted_indexes self.old.state (off + len) ≤ self.old.room }
         ensures answer { result ≡ write_answer self.old.state off len (vec_len fills.old) }
         ensures step { file_step (Some self.old.state) (FileFill off len byte runs.new.items) result ≡ Some (Some self.new.state) }
         ensures used { runs.new.items ≡ first_frames (fills_used result fills.old.items) }
@@ -100,7 +101,7 @@ impl FileFolios {
 /// Makes the bytes of a range the same, with folios of zeros for the holes that it touches and indexes up to its end.
 fn overwrite_same(
     slots: &mut Vec<Option<Folio>>,
-    home: &Home,
+    home: &Snapshot<Home>,
     order: Order,
     piece: u32,
     size: u32,
@@ -110,17 +111,17 @@ fn overwrite_same(
     fills: &mut Vec<Folio>,
     runs: &mut Vec<Pfn>,
 )
-    requires holds { HoldsBytes home.now order piece size slots.old.items }
+    requires holds { HoldsBytes home.now.value order piece size slots.old.items }
     requires some { 0 < piece }
     requires bytes { 0 < len }
     requires fits { (off + len) + piece < 2 ^ 32 }
     requires size_fits { size + piece < 2 ^ 32 }
     requires room { pieces (max size (off + len)) piece ≤ vec_capacity slots.old }
-    requires blank { AreBlank home.now order piece fills.old.items }
+    requires blank { AreBlank home.now.value order piece fills.old.items }
     requires holes { vec_len fills.old ≡ length (holes_in slots.old.items (places_of piece off len)) }
     requires empty { runs.old.items ≡ [] }
     requires runs_room { vec_len fills.old ≤ vec_capacity runs.old }
-    ensures holds { HoldsBytes home.now order piece (max size (off + len)) slots.new.items }
+    ensures holds { HoldsBytes home.now.value order piece (max size (off + len)) slots.new.items }
     ensures bytes { bytes_of piece (max size (off + len)) slots.new.items ≡ overwritten off (replicate len byte) (bytes_of piece size slots.old.items) }
     ensures runs { runs_in slots.new.items ≡ filled (holes_in slots.old.items (places_of piece off len)) (firsts runs.new.items) (runs_in slots.old.items) }
     ensures used { runs.new.items ≡ first_frames fills.old.items }
@@ -146,21 +147,21 @@ fn overwrite_same(
 /// Makes the bytes of a range the same over folios in a row.
 fn set_range(
     slots: &mut Vec<Option<Folio>>,
-    home: &Home,
+    home: &Snapshot<Home>,
     order: Order,
     piece: u32,
     off: u32,
     len: u32,
     byte: u8,
 )
-    requires slots { AreSlots home.now order piece slots.old.items }
+    requires slots { AreSlots home.now.value order piece slots.old.items }
     requires some { 0 < piece }
     requires within { off + len ≤ vec_len slots.old * piece }
     requires fits { off + len < 2 ^ 32 }
     requires there { (i : ℕ) → off / piece ≤ i → i < pieces (off + len) piece → is_hole slots.old.items i ≡ false }
     ensures bytes { all_bytes piece slots.new.items ≡ written (all_bytes piece slots.old.items) off (replicate len byte) }
     ensures runs { runs_in slots.new.items ≡ runs_in slots.old.items }
-    ensures slots { AreSlots home.now order piece slots.new.items }
+    ensures slots { AreSlots home.now.value order piece slots.new.items }
     ensures count { vec_len slots.new ≡ vec_len slots.old }
     ensures capacity { vec_capacity slots.new ≡ vec_capacity slots.old }
 {

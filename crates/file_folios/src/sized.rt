@@ -12,6 +12,7 @@ use crate::slots::{cut, fill_holes, grow, write_range};
 use ho_base::limits::PAGE_BYTES;
 use ho_base::numbers::{Order, Pfn};
 use phys_frames::{Folio, Home};
+use std::snapshot::Snapshot;
 
 /// How many bytes an index covers.
 pub(crate) fn piece_of(order: Order) -> u32
@@ -35,7 +36,7 @@ pub(crate) fn pieces_of(count: u32, piece: u32) -> u32
 /// Writes bytes, with folios of zeros for the holes that they touch and indexes up to their end.
 pub(crate) fn overwrite(
     slots: &mut Vec<Option<Folio>>,
-    home: &Home,
+    home: &Snapshot<Home>,
     order: Order,
     piece: u32,
     size: u32,
@@ -44,17 +45,17 @@ pub(crate) fn overwrite(
     fills: &mut Vec<Folio>,
     runs: &mut Vec<Pfn>,
 )
-    requires holds { HoldsBytes home.now order piece size slots.old.items }
+    requires holds { HoldsBytes home.now.value order piece size slots.old.items }
     requires some { 0 < piece }
     requires bytes { 0 < length bytes.now }
     requires fits { (off + length bytes.now) + piece < 2 ^ 32 }
     requires size_fits { size + piece < 2 ^ 32 }
     requires room { pieces (max size (off + length bytes.now)) piece ≤ vec_capacity slots.old }
-    requires blank { AreBlank home.now order piece fills.old.items }
+    requires blank { AreBlank home.now.value order piece fills.old.items }
     requires holes { vec_len fills.old ≡ length (holes_in slots.old.items (places_of piece off (length bytes.now))) }
     requires empty { runs.old.items ≡ [] }
     requires runs_room { vec_len fills.old ≤ vec_capacity runs.old }
-    ensures holds { HoldsBytes home.now order piece (max size (off + length bytes.now)) slots.new.items }
+    ensures holds { HoldsBytes home.now.value order piece (max size (off + length bytes.now)) slots.new.items }
     ensures bytes { bytes_of piece (max size (off + length bytes.now)) slots.new.items ≡ overwritten off bytes.now (bytes_of piece size slots.old.items) }
     ensures runs { runs_in slots.new.items ≡ filled (holes_in slots.old.items (places_of piece off (length bytes.now))) (firsts runs.new.items) (runs_in slots.old.items) }
     ensures used { runs.new.items ≡ first_frames fills.old.items }
@@ -81,7 +82,7 @@ pub(crate) fn overwrite(
 /// index with the frames at which they begin.
 pub(crate) fn resize(
     slots: &mut Vec<Option<Folio>>,
-    home: &Home,
+    home: &Snapshot<Home>,
     order: Order,
     piece: u32,
     size: u32,
@@ -89,13 +90,13 @@ pub(crate) fn resize(
     runs: &mut Vec<Pfn>,
     given: &mut Vec<Folio>,
 )
-    requires holds { HoldsBytes home.now order piece size slots.old.items }
+    requires holds { HoldsBytes home.now.value order piece size slots.old.items }
     requires some { 0 < piece }
     requires fits { to + piece < 2 ^ 32 }
     requires room { pieces to piece ≤ vec_capacity slots.old }
     requires runs_room { vec_len runs.old + length (folios_in (drop (pieces to piece) slots.old.items)) ≤ vec_capacity runs.old }
     requires given_room { vec_len given.old + length (folios_in (drop (pieces to piece) slots.old.items)) ≤ vec_capacity given.old }
-    ensures holds { HoldsBytes home.now order piece to slots.new.items }
+    ensures holds { HoldsBytes home.now.value order piece to slots.new.items }
     ensures bytes { bytes_of piece to slots.new.items ≡ take to (extended to (bytes_of piece size slots.old.items)) }
     ensures left { runs_in slots.new.items ≡ runs_in (take (pieces to piece) slots.old.items) }
     ensures runs { runs.new.items ≡ runs.old.items ++ first_frames (folios_in (drop (pieces to piece) slots.old.items)) }
@@ -114,18 +115,18 @@ pub(crate) fn resize(
 /// Makes the bytes past a size zero, which is in the last index.
 pub(crate) fn clear_past(
     slots: &mut Vec<Option<Folio>>,
-    home: &Home,
+    home: &Snapshot<Home>,
     order: Order,
     piece: u32,
     to: u32,
 )
-    requires slots { AreSlots home.now order piece slots.old.items }
+    requires slots { AreSlots home.now.value order piece slots.old.items }
     requires some { 0 < piece }
     requires count { vec_len slots.old ≡ pieces to piece }
     requires fits { to + piece < 2 ^ 32 }
     ensures bytes { all_bytes piece slots.new.items ≡ extended (length slots.old.items * piece) (take to (all_bytes piece slots.old.items)) }
     ensures runs { runs_in slots.new.items ≡ runs_in slots.old.items }
-    ensures slots { AreSlots home.now order piece slots.new.items }
+    ensures slots { AreSlots home.now.value order piece slots.new.items }
     ensures count { vec_len slots.new ≡ vec_len slots.old }
     ensures capacity { vec_capacity slots.new ≡ vec_capacity slots.old }
 {

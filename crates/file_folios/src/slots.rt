@@ -6,10 +6,11 @@ ghost use Rattle.ho_events.specs.Lists.{pieces};
 ghost use Rattle.ho_events.specs.Lists.{firsts};
 ghost use Rattle.ho_events.specs.File.{filled};
 ghost use Rattle.phys_frames.specs.Memory.{with_bytes, written, first_frames};
-ghost use Rattle.file_folios.specs.Slots.{places, slot_at, is_hole, holes_in, runs_in, all_bytes, slot_bytes, after_fill, folios_in, slot_list, given_home, with_folios, AreOut, AreSlots, AreBlank};
+ghost use Rattle.file_folios.specs.Slots.{places, slot_at, is_hole, holes_in, runs_in, all_bytes, slot_bytes, after_fill, folios_in, slot_list, AreSlots, AreBlank};
 
 use ho_base::numbers::{Order, Pfn};
-use phys_frames::{Folio, Frames, Home};
+use phys_frames::{Folio, Home};
+use std::snapshot::Snapshot;
 
 /// The first frame of the folio at an index; none where there is none.
 #[tactic(auto, using(crate::proofs::SlotRuns::run_get, crate::proofs::SlotRuns::none_past))]
@@ -71,19 +72,19 @@ fn put(slots: &mut Vec<Option<Folio>>, index: usize, at: usize, bytes: &[u8])
 /// Writes bytes over folios in a row, from a byte of all on.
 pub(crate) fn write_range(
     slots: &mut Vec<Option<Folio>>,
-    home: &Home,
+    home: &Snapshot<Home>,
     order: Order,
     piece: u32,
     off: u32,
     bytes: &[u8],
 )
-    requires slots { AreSlots home.now order piece slots.old.items }
+    requires slots { AreSlots home.now.value order piece slots.old.items }
     requires some { 0 < piece }
     requires within { off + length bytes.now ≤ vec_len slots.old * piece }
     requires there { (i : ℕ) → off / piece ≤ i → i < pieces (off + length bytes.now) piece → is_hole slots.old.items i ≡ false }
     ensures bytes { all_bytes piece slots.new.items ≡ written (all_bytes piece slots.old.items) off bytes.now }
     ensures runs { runs_in slots.new.items ≡ runs_in slots.old.items }
-    ensures slots { AreSlots home.now order piece slots.new.items }
+    ensures slots { AreSlots home.now.value order piece slots.new.items }
     ensures count { vec_len slots.new ≡ vec_len slots.old }
     ensures capacity { vec_capacity slots.new ≡ vec_capacity slots.old }
 {
@@ -154,7 +155,7 @@ fn put_in(slots: &mut Vec<Option<Folio>>, at: u32, folio: Folio)
 /// they begin.
 pub(crate) fn fill_holes(
     slots: &mut Vec<Option<Folio>>,
-    home: &Home,
+    home: &Snapshot<Home>,
     order: Order,
     piece: u32,
     from: u32,
@@ -162,10 +163,10 @@ pub(crate) fn fill_holes(
     fills: &mut Vec<Folio>,
     runs: &mut Vec<Pfn>,
 )
-    requires slots { AreSlots home.now order piece slots.old.items }
+    requires slots { AreSlots home.now.value order piece slots.old.items }
     requires within { from + count ≤ vec_len slots.old }
     requires fits { from + count < 2 ^ 32 }
-    requires blank { AreBlank home.now order piece fills.old.items }
+    requires blank { AreBlank home.now.value order piece fills.old.items }
     requires holes { vec_len fills.old ≡ length (holes_in slots.old.items (places from count)) }
     requires empty { runs.old.items ≡ [] }
     requires room { vec_len fills.old ≤ vec_capacity runs.old }
@@ -173,7 +174,7 @@ pub(crate) fn fill_holes(
     ensures runs { runs_in slots.new.items ≡ filled (holes_in slots.old.items (places from count)) (firsts runs.new.items) (runs_in slots.old.items) }
     ensures used { runs.new.items ≡ first_frames fills.old.items }
     ensures left { fills.new.items ≡ [] }
-    ensures slots { AreSlots home.now order piece slots.new.items }
+    ensures slots { AreSlots home.now.value order piece slots.new.items }
     ensures there { (i : ℕ) → from ≤ i → i < from + count → is_hole slots.new.items i ≡ false }
     ensures count { vec_len slots.new ≡ vec_len slots.old }
     ensures capacity { vec_capacity slots.new ≡ vec_capacity slots.old }
@@ -220,14 +221,14 @@ fn read_part(slot: &Option<Folio>, piece: u32, at: usize, part: usize, out: &mut
 /// Adds a range of all bytes to a list that has room for it.
 pub(crate) fn read_range(
     slots: &[Option<Folio>],
-    home: &Home,
+    home: &Snapshot<Home>,
     order: Order,
     piece: u32,
     off: u32,
     len: u32,
     out: &mut Vec<u8>,
 )
-    requires slots { AreSlots home.now order piece slots.now }
+    requires slots { AreSlots home.now.value order piece slots.now }
     requires some { 0 < piece }
     requires within { off + len ≤ length slots.now * piece }
     requires room { vec_len out.old + len ≤ vec_capacity out.old }
@@ -310,7 +311,7 @@ fn let_go(slot: Option<Option<Folio>>)
 }
 
 /// Takes empty places from the end, so that this many are left.
-fn pop_holes(slots: &mut Vec<Option<Folio>>, count: usize)
+pub(crate) fn pop_holes(slots: &mut Vec<Option<Folio>>, count: usize)
     requires within { count ≤ vec_len slots.old }
     requires holes { drop count slots.old.items ≡ replicate (vec_len slots.old - count) None }
     ensures slots { slots.new.items ≡ take count slots.old.items }
@@ -363,41 +364,4 @@ fn add_run(slot: &Option<Folio>, runs: &mut Vec<Pfn>)
         None => {}
         Some(folio) => runs.push(folio.first()).unwrap(),
     }
-}
-
-/// Brings the folio at an index home, where there is one.
-fn give_one(slots: &mut Vec<Option<Folio>>, at: usize, frames: &mut Frames)
-    requires within { at < vec_len slots.old }
-    requires of_home { MatchOption (slot_at slots.old.items at) (Unit {0}) (λ f. f.home ≡ frames.old.home) }
-    ensures slots { slots.new.items ≡ slice_set slots.old.items at None }
-    ensures frames { frames.new ≡ given_home frames.old (slot_at slots.old.items at) }
-    ensures were_out { AreOut frames.old (slot_list (slot_at slots.old.items at)) }
-    ensures count { vec_len slots.new ≡ vec_len slots.old }
-{
-    match slots[at].take() {
-        None => {}
-        Some(folio) => frames.give(folio),
-    }
-}
-
-/// Brings all folios home, in rising index.
-pub(crate) fn give_all(
-    slots: &mut Vec<Option<Folio>>,
-    home: &Home,
-    order: Order,
-    piece: u32,
-    frames: &mut Frames,
-)
-    requires slots { AreSlots home.now order piece slots.old.items }
-    requires home { home.now ≡ frames.old.home }
-    ensures frames { frames.new ≡ with_folios frames.old (folios_in slots.old.items) }
-    ensures were_out { AreOut frames.old (folios_in slots.old.items) }
-    ensures slots { slots.new.items ≡ [] }
-{
-    let mut at = 0;
-    while at < slots.len() {
-        give_one(slots, at, frames);
-        at += 1;
-    }
-    pop_holes(slots, 0);
 }

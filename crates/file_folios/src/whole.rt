@@ -5,12 +5,14 @@ ghost use Rattle.ho_base.specs.declared.limits.TheConstants.{FILE_BYTES};
 ghost use Rattle.ho_base.specs.declared.numbers.Kind.TheVariants.{Memfd};
 ghost use Rattle.ho_events.specs.File.{file_step, cut_runs, index_bytes, indexes, holes, runs_of};
 ghost use Rattle.ho_events.specs.Lists.{firsts, pieces};
+ghost use Rattle.ho_events.specs.Slips.{reply_runs};
 ghost use Rattle.ho_events.specs.declared.event.Event.TheVariants.{FilePin, FileTruncate};
 ghost use Rattle.phys_frames.specs.Memory.{first_frames};
 ghost use Rattle.file_folios.specs.Slots.{with_folios, AreOut};
-ghost use Rattle.file_folios.specs.FileAnswers.{AreFillsOf, more_indexes, memory_of, folios_of, pinned_state, truncated_state, truncate_given, cut_folios, IsTruncateAnswer, IsPinAnswer, pin_used, pin_left};
+ghost use Rattle.file_folios.specs.FileAnswers.{AreFillsOf, more_indexes, wanted_indexes, memory_of, folios_of, pinned_state, truncated_state, truncate_given, cut_folios, IsTruncateAnswer, IsPinAnswer, pin_used, pin_left};
 
 use crate::file::FileFolios;
+use crate::going_home::give_all;
 use crate::sized::{piece_of, resize};
 use crate::slots;
 use ho_base::Items;
@@ -36,7 +38,7 @@ impl FileFolios {
         requires runs_empty { runs.items ≡ [] }
         requires runs_room { length (cut_runs self.old.state size) ≤ vec_capacity runs }
         requires given_room { vec_len given.old + length (cut_runs self.old.state size) ≤ vec_capacity given.old }
-        requires room { more_indexes self.old.state size ≤ self.old.room }
+        requires room { wanted_indexes self.old.state size ≤ self.old.room }
         ensures answer { IsTruncateAnswer self.old.state size result }
         ensures step { file_step (Some self.old.state) (FileTruncate size) result ≡ Some (Some self.new.state) }
         ensures given { given.new.items ≡ given.old.items ++ truncate_given self.old.state self.old.home size result }
@@ -83,7 +85,8 @@ impl FileFolios {
 
     /// How many indexes below the size have no folio.
     pub fn all_holes(&self) -> u32
-        ensures { result ≡ length (holes self.now.state (indexes self.now.state)) }
+        ensures value { result ≡ length (holes self.now.state (indexes self.now.state)) }
+        ensures size { length self.now.state.bytes ≤ FILE_BYTES }
     {
         slots::count_holes(self.slots.as_slice(), 0, self.slots.len() as u32)
     }
@@ -102,6 +105,7 @@ impl FileFolios {
         requires runs_empty { runs.items ≡ [] }
         requires runs_room { pieces (length self.old.state.bytes) (index_bytes self.old.state) ≤ vec_capacity runs }
         ensures answer { IsPinAnswer self.old.state (vec_len fills.old) self.new.state result }
+        ensures few { length (reply_runs result) ≤ pieces (length self.old.state.bytes) (index_bytes self.old.state) }
         ensures step { file_step (Some self.old.state) (FilePin used.new.items) result ≡ Some (Some self.new.state) }
         ensures used { used.new.items ≡ first_frames (pin_used result fills.old.items) }
         ensures left { fills.new.items ≡ pin_left result fills.old.items }
@@ -178,7 +182,7 @@ impl FileFolios {
             home,
             mut slots,
         } = self;
-        slots::give_all(&mut slots, &home, order, piece_of(order), frames);
+        give_all(&mut slots, &home, order, piece_of(order), frames);
         slots.destroy_empty();
     }
 

@@ -1,11 +1,10 @@
 pub mod Entries
 pub mod Handing
-pub mod Likeness
-pub mod Limits
+pub mod Holding
 pub mod Owned
 pub mod PoolShape
 pub mod Reached
 pub mod Results
 pub mod Room
-pub mod SoundPages
+pub mod SoundKernel
 pub mod TakeSteps

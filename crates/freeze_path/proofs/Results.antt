@@ -9,6 +9,7 @@ use Rattle.std.proofs.lemmas.List.Elements.{All-nil, All-cons, All-head, All-tai
 use Rattle.ho_base.specs.BitmapCount.{chunk_frames}
 use Rattle.ho_base.specs.Objects.{pool_no}
 use Rattle.ho_base.specs.declared.numbers.Blob.{Blob}
+use Rattle.ho_base.specs.declared.numbers.Kind.TheVariants.{Memfd}
 use Rattle.ho_base.specs.declared.numbers.Pfn.{Pfn}
 use Rattle.ho_events.specs.declared.entry.Entry.{Entry}
 use Rattle.ho_events.specs.declared.event.Event.TheVariants.{PoolTake}
@@ -24,7 +25,7 @@ use Rattle.ho_world.specs.Sequences.Kexecs.{NoRoom, KernelEnds, fitting_acts}
 use Rattle.ho_world.specs.World.{State, World, PoolIn, FileIn, pool_in, pool_at}
 use Rattle.phys_frames.specs.Homes.{HomeId}
 use Rattle.phys_frames.specs.Memory.{FolioValue, AreOf, zeroed, with_bytes}
-use Rattle.machine_core.specs.Gathered.{BeginsAt, IsPageOfFile, IsAccounted}
+use Rattle.machine_core.specs.Gathered.{BeginsAt, IsFrameOfFile, IsAccounted}
 use Rattle.machine_core.specs.Kernels.{KernelValue, begun_in, histories_in}
 use Rattle.machine_core.specs.Worlds.{states_in, IsWorldOf}
 use Rattle.record_frames.specs.Ram.{Ram}
@@ -33,7 +34,8 @@ use Rattle.record_frames.specs.declared.carried.Carried.{Carried}
 use Rattle.kho_writer.specs.Folios.{CarryIt, HasRoom, OtherBytes, front_count}
 use Rattle.kho_writer.proofs.Counts.{left_over}
 use Rattle.kernel_carried.specs.Gathered.{Agrees, HoldsFilesIn}
-use Rattle.kernel_carried.proofs.Laws.{OnePage, carried_is, needs_same, one_page, all_single}
+use Rattle.kernel_carried.proofs.Laws.{all_memfds, carried_is, needs_same}
+use Rattle.sound_carried.specs.Fitting.{CarriedHasRoom}
 use Rattle.freeze_path.specs.Freezes.{IsStill, DidKexec, IsOfKernel, FrozeAll, FoundSmall, FoundFew}
 use Rattle.freeze_path.specs.Ready.{HasPool, IsReady, DidDeeds, got_deeds, few_deeds}
 use Rattle.freeze_path.specs.declared.freezing.Frozen.{Frozen}
@@ -41,6 +43,7 @@ use Rattle.freeze_path.specs.declared.ready.Ready.{Ready}
 use Rattle.freeze_path.proofs.Entries.{AreTwo, are_two, on_others, same_state, pool_state, pool_same, Took, took_legally}
 use Rattle.freeze_path.proofs.Owned.{Place, place_of, owned_after}
 use Rattle.freeze_path.proofs.Room.{room, singles_taken}
+use Rattle.freeze_path.proofs.SoundKernel.{lists_whole}
 
 -- ---- a kexec in the kernel's world
 
@@ -136,10 +139,9 @@ module _ (kernel kernel' : KernelValue) (at : At) (blob : Blob) (r : Ready) (es 
   legal = took_legally kernel kernel' es at r.need runs Ok ready.pool still two
 
   -- the folios have room
-  pub has_room : HasRoom r.carried (map (zeroed kernel.home) runs)
-  has_room =
-      room r.carried ready.pool.state kernel.home runs r.need ready.can ready.gathered.bounds (all_single kernel r.carried ready.gathered) (ready.pool.shape ∙ sym ready.gathered.shape)
-      (ready.pages ready.pool.state (pool_state kernel ready.pool)) legal.can (left_over no_ram r.carried r.need (chunk_frames r.carried.shape.frames) (ready.need_is no_ram) refl)
+  pub has_room : CarriedHasRoom → HasRoom r.carried (map (zeroed kernel.home) runs)
+  has_room law =
+      room kernel ready.sound ready.pool r.carried ready.gathered runs r.need legal.can (left_over no_ram r.carried r.need (chunk_frames r.carried.shape.frames) (ready.need_is no_ram) refl) law ready.can
 
   -- every other object stays as it is
   others : (n : ℕ) → n ≢ pool_no → states_in kernel'.objects n ≡ states_in kernel.objects n
@@ -162,26 +164,35 @@ module _ (kernel kernel' : KernelValue) (at : At) (blob : Blob) (r : Ready) (es 
   carried_before : (w : World) → IsWorldOf kernel' w → (ram : Ram) → HoldsFilesIn ram kernel'.objects → state_in ram r.carried ≡ frozen w
   carried_before w of ram holds =
       carried_is kernel r.carried w ram ready.gathered (agrees_before w of) (of.number ∙ still.updates) (pool_shape kernel' w pool' of ∙ still.shape) of.handlers
-      (λ n s is. holds n s (file_stays n s is))
+      (lists_whole kernel ready.sound r.carried ready.gathered ready.sessions w (agrees_before w of)) (λ n s is. holds n s (file_stays n s is))
 
-  page_after : (p : ℕ) → IsPageOfFile kernel.objects p → IsPageOfFile kernel'.objects p
-  page_after p page = record { number = page.number; file = page.file; there = file_stays page.number (Some page.file) page.there; page = page.page }
+  frame_after : (p : ℕ) → IsFrameOfFile kernel.objects p → IsFrameOfFile kernel'.objects p
+  frame_after p f = record {
+    number = f.number;
+    file = f.file;
+    there = file_stays f.number (Some f.file) f.there;
+    index = f.index;
+    first = f.first;
+    run = f.run;
+    from = f.from;
+    to = f.to;
+  }
 
-  module _ (f : Frozen) (c_is : f.carried ≡ r.carried) (b_is : f.blob ≡ blob) (other : OtherBytes (map (zeroed kernel.home) runs) f.folios.items) (len : length f.folios.items ≡ length (map (zeroed kernel.home) runs)) (carry : CarryIt r.carried f.folios.items)
+  module _ (f : Frozen) (c_is : f.carried ≡ r.carried) (b_is : f.blob ≡ blob) (other : OtherBytes (map (zeroed kernel.home) runs) f.folios.items) (len : length f.folios.items ≡ length (map (zeroed kernel.home) runs)) (carry : CarryIt r.carried f.folios.items) (law : CarriedHasRoom)
       (fits : scratch_need kernel.shape blob ≤ scratch_have kernel.shape) where
     accounted : IsAccounted kernel.shape.frames kernel'.objects f.folios.items
     accounted s p is lt o = pick (owned_after (firsts runs) ready.pool.state p (subst (λ x. is_owned x p ≡ true) (pool_same s _ (sym is ∙ legal.after)) o))
       where
-        pick : (list_any (λ y. y == p) (firsts runs) ≡ true) ⊎ (is_owned ready.pool.state p ≡ true) → BeginsAt f.folios.items p ⊎ IsPageOfFile kernel'.objects p
+        pick : (list_any (λ y. y == p) (firsts runs) ≡ true) ⊎ (is_owned ready.pool.state p ≡ true) → BeginsAt f.folios.items p ⊎ IsFrameOfFile kernel'.objects p
         pick (inl taken) = inl (begins_at (map (zeroed kernel.home) runs) f.folios.items p other len (place_of kernel.home runs p taken))
-        pick (inr before) = inr (page_after p (ready.accounted ready.pool.state p (pool_state kernel ready.pool) lt before))
+        pick (inr before) = inr (frame_after p (ready.accounted ready.pool.state p (pool_state kernel ready.pool) before))
 
     pub is_of : IsOfKernel kernel' f
     is_of = record {
       carried = λ w of ram count holds. ap (state_in ram) c_is ∙ carried_before w of ram holds;
-      one_page = λ ram. subst (λ (c : Carried). All OnePage (carried_files (state_in ram c))) (sym c_is) (one_page kernel r.carried ram ready.gathered);
+      memfds = λ ram. subst (λ (c : Carried). All (λ x. x.kind ≡ Memfd) (carried_files (state_in ram c))) (sym c_is) (λ k d lt. (all_memfds kernel r.carried ram ready.gathered k d lt).0);
       carry = subst (λ (c : Carried). CarryIt c f.folios.items) (sym c_is) carry;
-      some = subst (λ n. 1 ≤ n) (sym (len ∙ has_room.count)) (at_least_one (front_count r.carried) (chunk_frames r.carried.shape.frames) (some_front r.carried));
+      some = subst (λ n. 1 ≤ n) (sym (len ∙ (has_room law).count)) (at_least_one (front_count r.carried) (chunk_frames r.carried.shape.frames) (some_front r.carried));
       bounds = ap (λ (c : Carried). c.bounds) c_is ∙ ready.gathered.bounds;
       home =
           are_of kernel'.home f.folios.items

@@ -1,6 +1,6 @@
 -- The turns of a kexec.
-use Rattle.std.proofs.Common.{◌≡◌, ℕ, ◌+◌, ◌<◌, ◌≤◌, ◌^◌, List, [], ◌∷◌, map, sym, ap, subst, ◌∙◌, arith}
-use Rattle.std.specs.Prelude.{Option, None, Some, MatchOption}
+use Rattle.std.proofs.Common.{◌≡◌, ℕ, ◌+◌, ◌<◌, ◌^◌, List, [], ◌∷◌, map, refl, sym, ap, subst, ◌∙◌}
+use Rattle.std.specs.Prelude.{Option, None, Some}
 use Rattle.std.specs.declared.snapshot.Snapshot.{Snapshot}
 use Rattle.ho_base.specs.Objects.{pool_no}
 use Rattle.ho_base.specs.declared.items.Items.{Items}
@@ -12,9 +12,10 @@ use Rattle.ho_events.specs.declared.reply.Reply.{Reply}
 use Rattle.ho_events.specs.declared.reply.Reply.TheVariants.{Ok, Got, NoFrames, NoFramesOf}
 use Rattle.ho_events.specs.History.{last_stamp}
 use Rattle.ho_world.specs.Acts.{single}
-use Rattle.ho_world.specs.Logs.{Known, deed_at, end_with}
+use Rattle.ho_world.specs.Logs.{deed_at, end_with}
 use Rattle.phys_frames.specs.Homes.{HomeId}
-use Rattle.phys_frames.specs.Memory.{FolioValue, zeroed}
+use Rattle.phys_frames.specs.Memory.{zeroed, zero_page}
+use Rattle.pool_frames.specs.PoolLending.{zeroed_run, zero_pages}
 use Rattle.machine_core.specs.Agents.{Agent, Found, IsTold, with_at, took, HasEnded, GaveBack}
 use Rattle.machine_core.specs.Objects.{history_of, known_of}
 use Rattle.machine_core.specs.declared.object.Object.{Object}
@@ -22,7 +23,7 @@ use Rattle.machine_core.specs.Turns.{IsReady, Goes}
 use Rattle.luo_calls.specs.Takes.{TookRuns}
 use Rattle.luo_calls.proofs.Chains.{then_goes, ready_after}
 use Rattle.luo_calls.proofs.Steps.{at_same, put_back, goes_none}
-use Rattle.freeze_path.specs.Ready.{IsToldEarly, TookFrames, folios_of, reply_for, took_by}
+use Rattle.freeze_path.specs.Ready.{IsToldEarly, TookFrames, reply_for, took_by}
 
 -- the log got more room
 pub only_room : (at : At) (a a0 : Agent) → a0 ≡ record a { room = a0.room } → Goes [] at at a a0
@@ -49,19 +50,10 @@ module _ (at : At) (n : ℕ) (a a0 a1 b : Agent) (o : Object) (room : a0 ≡ rec
       g : GaveBack a1 n (known_of o) b
       g = subst (λ x. HasEnded a1 n None x b) in_it h
 
--- after an entry there is room for another one, where there was room for two
-pub room_left : (a b : Agent) (n : ℕ) (e : Entry) (x : Option Known) → HasEnded a n (Some e) x b → 2 ≤ a.room → 1 ≤ b.room
-room_left a b n e None h two = absurd h
-room_left a b n e (Some k) h two = omega (arith, h.shows.room, two)
-
 -- the take and the end of the command
 pub both : (count : ℕ) (at at1 at2 : At) (a a1 a2 : Agent) (got : Option (Snapshot (Items Pfn))) → TookRuns single count at at1 a a1 got → Goes (end_with (reply_for count got) ∷ []) at1 at2 a1 a2 → TookFrames count at a a2 (took_by got)
 both count at at1 at2 a a1 a2 None h k = (at2, then_goes (deed_at pool_no [] (PoolTake single count) NoFrames ∷ []) (end_with (NoFramesOf count) ∷ []) at at1 at2 a a1 a2 (h [] tt) k)
 both count at at1 at2 a a1 a2 (Some runs) h k = (at2, then_goes (deed_at pool_no [] (PoolTake single count) (Got runs.value) ∷ []) (end_with Ok ∷ []) at at1 at2 a a1 a2 (h [] tt) k)
-
-pub same_folios : (home : HomeId) (got : Option (Snapshot (Items Pfn))) (out : List FolioValue) → MatchOption got (out ≡ []) (λ runs. out ≡ map (zeroed home) runs.value) → out ≡ folios_of home (took_by got)
-same_folios home None out h = h
-same_folios home (Some runs) out h = h
 
 pub ready_taken : (count : ℕ) (at at1 : At) (a a1 : Agent) (got : Option (Snapshot (Items Pfn))) → IsReady at a → TookRuns single count at at1 a a1 got → IsReady at1 a1
 ready_taken count at at1 a a1 None r h = ready_after (deed_at pool_no [] (PoolTake single count) NoFrames ∷ []) at at1 a a1 r (h [] tt)
@@ -78,3 +70,14 @@ pool_early a a0 o room found told = go a0.told (subst IsToldEarly (sym (ap (λ (
 -- with other room first
 pub after_room : (reply : Reply) (at at2 : At) (a a0 a2 : Agent) → a0 ≡ record a { room = a0.room } → Goes (end_with reply ∷ []) at at2 a0 a2 → Goes (end_with reply ∷ []) at at2 a a2
 after_room reply at at2 a a0 a2 room h = then_goes [] (end_with reply ∷ []) at at at2 a a0 a2 (only_room at a a0 room) h
+
+-- ---- runs of one frame
+
+-- a run of one frame that holds zeros
+one_zeroed : (home : HomeId) (p : Pfn) → zeroed_run home (record { 0 = 0 }) p ≡ zeroed home p
+unfolding zeroed_run zero_pages zero_page
+one_zeroed home p = refl
+
+pub zeroed_ones : (home : HomeId) (runs : List Pfn) → map (zeroed_run home (record { 0 = 0 })) runs ≡ map (zeroed home) runs
+zeroed_ones home [] = refl
+zeroed_ones home (r ∷ runs) = λ i. one_zeroed home r i ∷ zeroed_ones home runs i

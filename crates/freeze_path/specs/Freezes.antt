@@ -45,11 +45,11 @@ pub record DidKexec (kernel : KernelValue) (at : At) (blob : Blob) (outcome : Ke
   pub done : AreDone (begun_in kernel.objects) at at.last (deeds_of sequence) (paired_on (begun_in kernel.objects) (histories_in kernel.objects) [] entries) last
 
 -- What was frozen is this kernel's as it stands: what is carried is what a kexec of it carries, where the frames hold its files; all
--- carried files are memfds of at most one page; the folios carry it; each is one frame of the kernel's machine; and each owned frame is
--- one of them or the page of a file.
+-- carried files are memfds; the folios carry it; each is one frame of the kernel's machine; and each owned frame is one of them or
+-- stands in a run of a file.
 pub record IsOfKernel (kernel : KernelValue) (f : Frozen) : Type 0 where
   pub carried : (w : World) → IsWorldOf kernel w → (ram : Ram) → ram.count ≡ kernel.shape.frames → HoldsFilesIn ram kernel.objects → state_in ram f.carried ≡ frozen w
-  pub one_page : (ram : Ram) → All (λ c. (c.kind ≡ Memfd) × (c.order ≡ 0) × (length c.runs ≤ 1)) (carried_files (state_in ram f.carried))
+  pub memfds : (ram : Ram) → All (λ c. c.kind ≡ Memfd) (carried_files (state_in ram f.carried))
   pub carry : CarryIt f.carried f.folios.items
   pub some : 1 ≤ length f.folios.items
   pub bounds : f.carried.bounds ≡ []

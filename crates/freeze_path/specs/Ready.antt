@@ -1,12 +1,12 @@
 -- What is ready before a kernel is frozen, and how its frames are taken.
-use Rattle.std.specs.Prelude.{◌≡◌, ℕ, ◌+◌, ◌^◌, ◌<◌, Bool, true, false, not, ◌&&◌, nat_lt, List, [], ◌∷◌, map, IsTrue, Option, None, Some}
-use Rattle.std.specs.List.{list_all, flat_map}
+use Rattle.std.specs.Prelude.{◌≡◌, ℕ, ◌+◌, ◌^◌, ◌<◌, Bool, true, false, List, [], ◌∷◌, map, IsTrue, Option, None, Some}
+use Rattle.std.specs.Option.{IsSome}
 use Rattle.std.specs.declared.snapshot.Snapshot.{Snapshot}
-use Rattle.ho_base.specs.Objects.{pool_no}
-use Rattle.ho_base.specs.ShapeRule.{in_scratch, is_layout}
+use Rattle.ho_base.specs.Objects.{pool_no, registry_no, session_no}
+use Rattle.ho_base.specs.ShapeRule.{is_layout}
 use Rattle.ho_base.specs.declared.items.Items.{Items}
+use Rattle.ho_base.specs.declared.limits.TheConstants.{OUT_SLOTS}
 use Rattle.ho_base.specs.declared.numbers.Pfn.{Pfn}
-use Rattle.ho_events.specs.Lists.{are_distinct, firsts}
 use Rattle.ho_events.specs.Pool.{PoolState, is_owned}
 use Rattle.ho_events.specs.declared.event.Event.TheVariants.{PoolTake}
 use Rattle.ho_events.specs.declared.reply.Reply.{Reply}
@@ -20,7 +20,8 @@ use Rattle.ho_world.specs.World.{PoolIn, World}
 use Rattle.phys_frames.specs.Homes.{HomeId}
 use Rattle.phys_frames.specs.Memory.{FolioValue, zeroed}
 use Rattle.machine_core.specs.Agents.{Agent}
-use Rattle.machine_core.specs.Gathered.{IsPageOfFile}
+use Rattle.machine_core.specs.Gathered.{IsFrameOfFile}
+use Rattle.machine_core.specs.declared.object.Object as object
 use Rattle.machine_core.specs.declared.object.Object.TheVariants.{Pool}
 use Rattle.machine_core.specs.Kernels.{KernelValue, object_at, begun_in, histories_in}
 use Rattle.pool_core.specs.PoolValues.{PoolValue}
@@ -31,10 +32,6 @@ use Rattle.machine_core.specs.Worlds.{states_in, IsWorldOf}
 use Rattle.balance_laws.specs.Sound.{Sound}
 use Rattle.record_frames.specs.Ram.{Ram}
 use Rattle.record_frames.specs.State.{state_in}
-use Rattle.record_frames.specs.Writing.{files_in}
-use Rattle.record_frames.specs.declared.carried.Carried.{Carried}
-use Rattle.record_frames.specs.declared.carried.CarriedFile.{CarriedFile}
-use Rattle.record_frames.specs.declared.carried.CarriedSession.{CarriedSession}
 use Rattle.kho_laws.specs.Carrying.{can_be_carried}
 use Rattle.kho_writer.specs.Folios.{MarksOwn, front_count}
 use Rattle.kernel_carried.specs.Gathered.{Agrees, IsGathered}
@@ -42,26 +39,14 @@ use Rattle.freeze_path.specs.declared.ready.Ready.{Ready}
 use Rattle.freeze_path.specs.declared.taking.Took.{Took}
 use Rattle.freeze_path.specs.declared.taking.Took.TheVariants as took
 
--- the pages of the files of sessions, in order
-abbrev pub pages_in : List CarriedSession → List Pfn
-pages_in sessions = flat_map (λ (f : CarriedFile). f.runs) (files_in sessions)
+-- each owned frame of a kernel stands in a run of a file
+abbrev pub OwnsRuns : KernelValue → Type 0
+OwnsRuns kernel = (s : PoolState) (p : ℕ) → states_in kernel.objects pool_no ≡ Some (PoolIn s) → is_owned s p ≡ true → IsFrameOfFile kernel.objects p
 
--- a frame is one of the machine's other than frame 0, in no scratch area, and owned
-abbrev pub is_page : PoolState → ℕ → Bool
-is_page s p = nat_lt 0 p && nat_lt p s.shape.frames && not (in_scratch s.shape.scratch p) && is_owned s p
-
--- frames are different pages
-pub record ArePages (s : PoolState) (ps : List ℕ) : Type 0 where
-  pub distinct : IsTrue (are_distinct ps)
-  pub each : IsTrue (list_all (is_page s) ps)
-
--- the pages of what is carried are different pages of the kernel's pool
-abbrev pub HasPages : KernelValue → Carried → Type 0
-HasPages kernel c = (s : PoolState) → states_in kernel.objects pool_no ≡ Some (PoolIn s) → ArePages s (firsts (pages_in c.sessions))
-
--- each owned frame of a kernel is the page of a file
-abbrev pub OwnsPages : KernelValue → Type 0
-OwnsPages kernel = (s : PoolState) (p : ℕ) → states_in kernel.objects pool_no ≡ Some (PoolIn s) → p < kernel.shape.frames → is_owned s p ≡ true → IsPageOfFile kernel.objects p
+-- the registry and each outgoing slot are among the objects
+pub record HaveSessions (objects : List (Option object.Object)) : Type 0 where
+  pub registry : IsSome (object_at objects registry_no)
+  pub slots : (slot : ℕ) → slot < OUT_SLOTS → IsSome (object_at objects (session_no slot))
 
 -- a kernel's world is sound with some labels of its agents
 pub record IsSoundKernel (kernel : KernelValue) : Type 0 where
@@ -79,14 +64,15 @@ pub record HasPool (kernel : KernelValue) : Type 0 where
   pub shape : state.shape ≡ kernel.shape
   pub layout : IsTrue (is_layout kernel.shape.frames kernel.shape.scratch)
 
--- All is there to freeze a kernel: what is carried is gathered from it and can be carried, its pages are different pages, each owned
--- frame is a page, no device file is preserved, and the marks and the room are those of what is carried.
+-- All is there to freeze a kernel whose world is sound: what is carried is gathered from it and can be carried, each owned frame
+-- stands in a run of a file, no device file is preserved, and the marks and the room are those of what is carried.
 pub record IsReady (kernel : KernelValue) (r : Ready) : Type 0 where
+  pub sound : IsSoundKernel kernel
   pub pool : HasPool kernel
+  pub sessions : HaveSessions kernel.objects
   pub gathered : IsGathered kernel r.carried
   pub can : IsTrue (can_be_carried r.carried)
-  pub pages : HasPages kernel r.carried
-  pub accounted : OwnsPages kernel
+  pub accounted : OwnsRuns kernel
   pub devices : (w : World) → Agrees w kernel.objects → preserved_devices w ≡ []
   pub marks : MarksOwn r.carried r.tracker
   pub prepared : r.prepared ≡ front_count r.carried

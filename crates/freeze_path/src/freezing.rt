@@ -26,6 +26,7 @@ use machine_core::{Kernel, LATE, PlainReach};
 use phys_frames::Folio;
 use record_frames::Carried;
 use scratch_area::Handoff;
+use sound_carried::carried_has_room;
 use std::alloc::Global;
 
 /// The least greatest stamp that is too great for the two entries of a kexec.
@@ -172,6 +173,7 @@ fn freeze_ready(
     ensures stays { IsStill kernel result.0 result.1.items }
     ensures came { Froze kernel at blob result.0 result.1.items result.2 }
 {
+    carried_has_room();
     let need = ready.need;
     let (kernel, entries, took, folios) = take_all(alloc, kernel, at, need);
     has_pool(&kernel);
@@ -251,7 +253,7 @@ pub fn kexec(kernel: Kernel, frozen: Frozen) -> Handoff
     ensures shape { result.shape ≡ kernel.shape }
     ensures carries { (w : World) → IsWorldOf kernel w → Carries (ram_of result.frames) result.entry.0 (frozen_of w) }
     ensures same_shape { (w : World) → IsWorldOf kernel w → (frozen_of w).shape ≡ kernel.shape }
-    ensures one_page { (w : World) → IsWorldOf kernel w → All (λ c. (c.kind ≡ Memfd) × (c.order ≡ 0) × (length c.runs ≤ 1)) (carried_files (frozen_of w)) }
+    ensures memfds { (w : World) → IsWorldOf kernel w → All (λ c. c.kind ≡ Memfd) (carried_files (frozen_of w)) }
 {
     let Frozen {
         carried,

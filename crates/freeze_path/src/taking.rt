@@ -99,6 +99,7 @@ pub(crate) fn end_first<R: Reach>(reach: &mut R, at: At, reply: Reply) -> bool
 }
 
 /// Takes so many frames into the empty list; none, with nothing taken, where too few are free.
+#[tactic(auto, using(crate::proofs::TakeSteps::zeroed_ones))]
 fn take<R: Reach>(
     alloc: Global,
     reach: &mut R,

@@ -27,7 +27,7 @@ can_go_on old (next.Ended e) left w few = record {
   state = frozen w.0;
   carries = left.carries w.0 w.1;
   shape = left.same_shape w.0 w.1 ∙ sym left.shape;
-  pages = left.pages w.0 w.1;
+  memfds = left.memfds w.0 w.1;
   fits = subst (λ (s : Layout). scratch_need s e.blob ≤ scratch_have s) (sym left.shape) left.fits;
   few = subst (λ k. k < KEXECS) (sym left.kernel) (few refl);
 }

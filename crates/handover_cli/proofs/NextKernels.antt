@@ -1,8 +1,7 @@
 -- A kexec as it was frozen and booted: where it begins, what was done, and which kernel follows.
-use Rattle.std.proofs.Common.{◌≡◌, ℕ, ◌+◌, ◌≤◌, Bool, ◌&&◌, ◌==◌, nat_le, List, [], ◌∷◌, length, refl, sym, ap, subst, ◌∙◌, arith, IsTrue, take, zero, suc}
+use Rattle.std.proofs.Common.{◌≡◌, ℕ, ◌+◌, ◌≤◌, Bool, List, [], ◌∷◌, refl, sym, ap, subst, ◌∙◌, arith, IsTrue, take, zero, suc}
 use Rattle.std.specs.Prelude.{Some, slice_get}
 use Rattle.std.specs.List.{All, list_all}
-use Rattle.std.proofs.lemmas.Bool.Decides.{nat_tests}
 use Rattle.ho_base.specs.declared.limits.TheConstants.{KEXECS}
 use Rattle.ho_base.specs.declared.numbers.Blob.{Blob}
 use Rattle.ho_events.specs.Script.Rules.{kexecs_in}
@@ -13,8 +12,8 @@ use Rattle.ho_events.specs.declared.slip.At.{At}
 use Rattle.ho_base.specs.declared.numbers.Kind.TheVariants.{Memfd}
 use Rattle.ho_world.specs.Frozen.{CarriedFile, Frozen, carried_files}
 use Rattle.ho_world.specs.Sequences.Kexecs.{KexecOutcome}
-use Rattle.ho_world.proofs.Fronts.{and_both, eq_test}
-use Rattle.next_laws.specs.Begins.{is_memfd, is_one_page, are_one_page}
+use Rattle.ho_world.proofs.Fronts.{and_both}
+use Rattle.next_laws.specs.Begins.{is_memfd, are_memfds}
 use Rattle.kexec_laws.specs.Kexecs.{ends, kexec_number}
 use Rattle.kexec_laws.proofs.KexecNumbers.{kexecs_counted}
 use Rattle.machine_core.specs.Kernels.{KernelValue}
@@ -40,22 +39,15 @@ kexec_block kernel old number n last blob outcome entries ended same base still 
   ending = ending;
 }
 
--- what is carried has one-page memfds alone, as a test
-all_one_page : (cs : List CarriedFile) → All (λ c. (c.kind ≡ Memfd) × (c.order ≡ 0) × (length c.runs ≤ 1)) cs → IsTrue (list_all is_one_page cs)
-all_one_page [] h = refl
-all_one_page (c ∷ cs) h =
-    let first = h zero c (omega arith) in
-    and_both (is_one_page c) _
-    (and_both (is_memfd c.kind && c.order == 0) _
-    (and_both (is_memfd c.kind) _ (subst (λ k. IsTrue (is_memfd k)) (sym first.0) refl) (eq_test c.order 0 first.1))
-    (at_most (length c.runs) first.2))
-    (all_one_page cs (λ k d less. h (suc k) d (omega (arith, less))))
-  where
-    at_most : (n : ℕ) → n ≤ 1 → IsTrue (nat_le n 1)
-    at_most n h = grind (arith, nat_tests)
+-- what is carried has memfds alone, as a test
+all_memfds : (cs : List CarriedFile) → All (λ c. c.kind ≡ Memfd) cs → IsTrue (list_all (λ c. is_memfd c.kind) cs)
+all_memfds [] h = refl
+all_memfds (c ∷ cs) h =
+    and_both (is_memfd c.kind) _ (subst (λ k. IsTrue (is_memfd k)) (sym (h zero c (omega arith))) refl)
+    (all_memfds cs (λ k d less. h (suc k) d (omega (arith, less))))
 
-pub one_page_test : (f : Frozen) → All (λ c. (c.kind ≡ Memfd) × (c.order ≡ 0) × (length c.runs ≤ 1)) (carried_files f) → IsTrue (are_one_page f)
-one_page_test f h = all_one_page (carried_files f) h
+pub memfd_test : (f : Frozen) → All (λ c. c.kind ≡ Memfd) (carried_files f) → IsTrue (are_memfds f)
+memfd_test f h = all_memfds (carried_files f) h
 
 -- what was done with a number that is the next one
 pub did_at : (m n : ℕ) (block : Block) (kernel : KernelValue) (entries : List Entry) (left : Next) → m ≡ n → DidAndLeft m block kernel entries left → DidAndLeft n block kernel entries left

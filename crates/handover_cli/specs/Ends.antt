@@ -1,5 +1,5 @@
 -- What a block leaves: the kernel that goes on, or the frames of one that ended.
-use Rattle.std.specs.Prelude.{◌≡◌, ℕ, ◌+◌, ◌<◌, ◌≤◌, Bool, true, false, List, length}
+use Rattle.std.specs.Prelude.{◌≡◌, ℕ, ◌+◌, ◌<◌, ◌≤◌, Bool, true, false, List}
 use Rattle.std.specs.List.{All}
 use Rattle.ho_base.specs.declared.limits.TheConstants.{KEXECS}
 use Rattle.ho_base.specs.declared.numbers.Kind.TheVariants.{Memfd}
@@ -17,9 +17,9 @@ use Rattle.handover_cli.specs.declared.rebooting.Ended.{Ended}
 use Rattle.handover_cli.specs.declared.rebooting.Next.{Next}
 use Rattle.handover_cli.specs.declared.rebooting.Next.TheVariants as next
 
--- a state has memfds of single frames with at most one page alone
-abbrev pub HasPages : Frozen → Type 0
-HasPages f = All (λ c. (c.kind ≡ Memfd) × (c.order ≡ 0) × (length c.runs ≤ 1)) (carried_files f)
+-- every carried file of a state is a memfd
+abbrev pub HasMemfds : Frozen → Type 0
+HasMemfds f = All (λ c. c.kind ≡ Memfd) (carried_files f)
 
 -- A kernel ended so: its frames carry what is frozen of its world, the machine's shape stays, and the program fits.
 pub record EndedAs (old : KernelValue) (e : Ended) : Type 0 where
@@ -27,7 +27,7 @@ pub record EndedAs (old : KernelValue) (e : Ended) : Type 0 where
   pub shape : e.handoff.shape ≡ old.shape
   pub carries : (w : World) → IsWorldOf old w → Carries (ram_of e.handoff.frames) e.handoff.entry.0 (frozen w)
   pub same_shape : (w : World) → IsWorldOf old w → (frozen w).shape ≡ old.shape
-  pub pages : (w : World) → IsWorldOf old w → HasPages (frozen w)
+  pub memfds : (w : World) → IsWorldOf old w → HasMemfds (frozen w)
   pub fits : scratch_need old.shape e.blob ≤ scratch_have old.shape
 
 -- a block left its kernel so
@@ -51,7 +51,7 @@ pub record CanBoot (e : Ended) : Type 0 where
   pub state : Frozen
   pub carries : Carries (ram_of e.handoff.frames) e.handoff.entry.0 state
   pub shape : state.shape ≡ e.handoff.shape
-  pub pages : HasPages state
+  pub memfds : HasMemfds state
   pub fits : scratch_need e.handoff.shape e.blob ≤ scratch_have e.handoff.shape
   pub few : e.kernel < KEXECS
 

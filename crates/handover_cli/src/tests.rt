@@ -96,10 +96,10 @@ fn with_line(alloc: Global, number: usize, line: &[u8]) -> Result<Vec<u8>, Alloc
 fn answers_with_a_status(rt: HostRuntime) -> Result<(), Fail> {
     let alloc = rt.alloc();
     let words = run_words(alloc)?;
-    let truncated = with_line(alloc, 10, b"truncate m 8\n")?;
+    let device = with_line(alloc, 10, b"device d dev0 16\n")?;
     let cases: [(&[u8], Status, &[u8]); 3] = [
         (
-            truncated.as_slice(),
+            device.as_slice(),
             Status::Script,
             b"script refused: line 10: later\n",
         ),

@@ -1,13 +1,13 @@
 -- What is gathered from a kernel's objects is what a kexec carries.
-use Rattle.std.proofs.Common.{◌≡◌, ℕ, ◌+◌, ◌≤◌, ◌<◌, Bool, cond, List, [], ◌∷◌, ◌++◌, length, map, refl, ap, sym, ◌∙◌, subst, arith}
+use Rattle.std.proofs.Common.{◌≡◌, ℕ, ◌+◌, ◌≤◌, ◌<◌, Bool, cond, List, [], ◌∷◌, ◌++◌, length, map, take, refl, ap, sym, ◌∙◌, arith}
 use Rattle.std.specs.Prelude.{Option, None, Some, nat_lt, min, unwrap_or, sum, count_by}
 use Rattle.std.specs.FinMap as finmap
-use Rattle.std.specs.List.{All, flat_map}
+use Rattle.std.specs.List.{All, AllByRecursion, flat_map}
 use Rattle.std.proofs.lemmas.List.Elements.{All-nil, All-cons, All-append}
 use Rattle.std.proofs.lemmas.List.{length-map, map-append}
 use Rattle.std.proofs.lemmas.Grind.{common_steps}
+use Rattle.ho_base.specs.declared.limits.TheConstants.{MAX_ORDER}
 use Rattle.ho_base.specs.declared.numbers.Kind.TheVariants.{Memfd}
-use Rattle.ho_base.specs.declared.numbers.Pfn.{Pfn}
 use Rattle.ho_events.specs.Contents.{Reference, reference_of}
 use Rattle.ho_events.specs.File.{FileState}
 use Rattle.ho_events.specs.Handler.{Side}
@@ -15,37 +15,57 @@ use Rattle.ho_events.specs.Lists.{upto, pieces}
 use Rattle.ho_events.specs.Session.{Listed, files_of}
 use Rattle.ho_world.specs.Frozen.{CarriedFile as FileCarried, CarriedSession as SessionCarried, Frozen, MOST_UPDATES, file_carried, listed_carried, session_carried, carried_bounds, carried_files, bound_of, frozen, need, bitmaps}
 use Rattle.ho_world.specs.World.{Nothing, World, pool_at, registry_at, handler_at, session_at, file_at}
-use Rattle.memfd_file.specs.Files.{page_of}
 use Rattle.machine_core.specs.declared.object.Object as object
 use Rattle.machine_core.specs.Kernels.{KernelValue}
 use Rattle.machine_core.specs.Worlds.{states_in}
 use Rattle.record_frames.specs.Kept.{devices}
-use Rattle.record_frames.specs.Ram.{Ram}
+use Rattle.record_frames.specs.Ram.{Ram, run_bytes}
 use Rattle.record_frames.specs.State.{file_in, session_in, state_in, bound_among}
 use Rattle.record_frames.specs.declared.carried.Carried.{Carried}
 use Rattle.record_frames.specs.declared.carried.CarriedBound.{CarriedBound}
 use Rattle.record_frames.specs.declared.carried.CarriedFile.{CarriedFile}
 use Rattle.record_frames.specs.declared.carried.CarriedSession.{CarriedSession}
-use Rattle.kernel_carried.specs.Gathered.{Agrees, HoldsPage, HoldsFilesIn, IsCarriedAs, AreFilesOf, AreSessionsOf, IsGathered}
+use Rattle.kernel_carried.specs.Gathered.{Agrees, HasAllRuns, HoldsFilesIn, HoldsRuns, IsAs, IsCarriedAs, AreFilesOf, AreSessionsOf, IsGathered, ListsWhole, listed_in}
+use Rattle.kernel_carried.proofs.Frames.{whole_bytes}
 
 -- ---- the state
 
-files_are : (objects : List (Option object.Object)) (w : World) (ram : Ram) → HoldsFilesIn ram objects → (es : List (ℕ × Listed)) (cs : List CarriedFile) → AreFilesOf objects w (map reference_of es) cs → map (file_in ram) cs ≡ map (listed_carried w) es
-unfolding AreFilesOf
-files_are objects w ram holds [] [] h = refl
-files_are objects w ram holds [] (c ∷ cs) h = absurd h
-files_are objects w ram holds (e ∷ es) [] h = absurd h
-files_are objects w ram holds (e ∷ es) (c ∷ cs) h = λ i.
-    h.0.carried.is ram e.1.handle (holds _ _ h.0.there) i ∷ files_are objects w ram holds es cs h.1 i
+file_is : (ram : Ram) (token handle : ℕ) (s : Option FileState) (c : CarriedFile) → IsCarriedAs token s c → HasAllRuns s → HoldsRuns ram s → file_in ram c ≡ file_carried token handle s
+file_is ram token handle s c h runs holds =
+    let same : IsAs c (file_carried token handle s) = h.is handle in
+    λ i. record {
+      token = same.token i;
+      kind = same.kind i;
+      order = same.order i;
+      bytes = ((λ j. take (same.size j) (flat_map (run_bytes ram (same.order j)) (same.runs j))) ∙ bytes s runs holds) i;
+      position = same.position i;
+      handle = same.handle i;
+      runs = same.runs i;
+    }
+  where
+    bytes : (s : Option FileState) → HasAllRuns s → HoldsRuns ram s → take (length (file_carried token handle s).bytes) (flat_map (run_bytes ram (file_carried token handle s).order) (file_carried token handle s).runs) ≡ (file_carried token handle s).bytes
+    bytes None runs holds = refl
+    bytes (Some f) runs holds = whole_bytes ram f runs holds
 
-sessions_are : (objects : List (Option object.Object)) (w : World) (ram : Ram) → HoldsFilesIn ram objects → (es : List (List ℕ × ℕ)) (cs : List CarriedSession) → AreSessionsOf objects w es cs → map (session_in ram) cs ≡ map (session_carried w) es
+abbrev AllWhole : World → List Reference → Type 0
+AllWhole w rs = AllByRecursion (λ (r : Reference). HasAllRuns (file_at w r.file)) rs
+
+files_are : (objects : List (Option object.Object)) (w : World) (ram : Ram) → HoldsFilesIn ram objects → (es : List (ℕ × Listed)) (cs : List CarriedFile) → AllWhole w (map reference_of es) → AreFilesOf objects w (map reference_of es) cs → map (file_in ram) cs ≡ map (listed_carried w) es
+unfolding AreFilesOf
+files_are objects w ram holds [] [] whole h = refl
+files_are objects w ram holds [] (c ∷ cs) whole h = absurd h
+files_are objects w ram holds (e ∷ es) [] whole h = absurd h
+files_are objects w ram holds (e ∷ es) (c ∷ cs) whole h = λ i.
+    file_is ram e.0 e.1.handle (file_at w e.1.file) c h.0.carried whole.0 (holds _ _ h.0.there) i ∷ files_are objects w ram holds es cs whole.1 h.1 i
+
+sessions_are : (objects : List (Option object.Object)) (w : World) (ram : Ram) → HoldsFilesIn ram objects → (es : List (List ℕ × ℕ)) (cs : List CarriedSession) → AllByRecursion (λ (e : List ℕ × ℕ). AllWhole w (listed_in w e.1)) es → AreSessionsOf objects w es cs → map (session_in ram) cs ≡ map (session_carried w) es
 unfolding AreSessionsOf
-sessions_are objects w ram holds [] [] h = refl
-sessions_are objects w ram holds [] (c ∷ cs) h = absurd h
-sessions_are objects w ram holds (e ∷ es) [] h = absurd h
-sessions_are objects w ram holds (e ∷ es) (c ∷ cs) h = λ i.
-    record { name = h.0.name i; files = files_are objects w ram holds (finmap.entries (files_of (session_at w e.1))) c.files h.0.files i }
-    ∷ sessions_are objects w ram holds es cs h.1 i
+sessions_are objects w ram holds [] [] whole h = refl
+sessions_are objects w ram holds [] (c ∷ cs) whole h = absurd h
+sessions_are objects w ram holds (e ∷ es) [] whole h = absurd h
+sessions_are objects w ram holds (e ∷ es) (c ∷ cs) whole h = λ i.
+    record { name = h.0.name i; files = files_are objects w ram holds (finmap.entries (files_of (session_at w e.1))) c.files whole.0 h.0.files i }
+    ∷ sessions_are objects w ram holds es cs whole.1 h.1 i
 
 none_bound : (side : Side) → side.files ≡ 0 → bound_of side ≡ None
 none_bound side h = ap (λ n. cond (nat_lt 0 n) side.bound None) h
@@ -57,31 +77,22 @@ no_bounds w h = λ i.
     ∷ none_bound (handler_at w 2).outgoing (h 2 (omega arith)) i ∷ none_bound (handler_at w 3).outgoing (h 3 (omega arith)) i ∷ []
 
 pub carried_is : (kernel : KernelValue) (c : Carried) (w : World) (ram : Ram) → IsGathered kernel c → Agrees w kernel.objects → w.number ≡ kernel.updates → (pool_at w).shape ≡ kernel.shape
-    → ((k : ℕ) → k < 4 → (handler_at w k).outgoing.files ≡ 0) → HoldsFilesIn ram kernel.objects → state_in ram c ≡ frozen w
-carried_is kernel c w ram g agrees number shape handlers holds = λ i. record {
+    → ((k : ℕ) → k < 4 → (handler_at w k).outgoing.files ≡ 0) → ListsWhole w → HoldsFilesIn ram kernel.objects → state_in ram c ≡ frozen w
+carried_is kernel c w ram g agrees number shape handlers whole holds = λ i. record {
   shape = (g.shape ∙ sym shape) i;
   number = (g.number ∙ ap (λ n. min (n + 1) MOST_UPDATES) (sym number)) i;
-  sessions = sessions_are kernel.objects w ram holds (finmap.entries (registry_at w).outgoing) c.sessions (g.sessions w agrees) i;
+  sessions = sessions_are kernel.objects w ram holds (finmap.entries (registry_at w).outgoing) c.sessions whole (g.sessions w agrees) i;
   bounds = (ap (λ (bs : List CarriedBound). map (bound_among bs) devices) g.bounds ∙ sym (no_bounds w handlers)) i;
 }
 
 -- ---- how many frames the records need: the bytes don't count
-
--- a machine's frames that hold the page of a file
-abbrev pub ram_for : Option FileState → Ram
-ram_for None = record { count = 0; page = λ p. [] }
-ram_for (Some f) = record { count = 0; page = λ p. page_of f.bytes }
-
-pub holds_for : (s : Option FileState) → HoldsPage (ram_for s) s
-holds_for None = tt
-holds_for (Some f) = λ p is. refl
 
 -- how many runs each file of each session has
 abbrev runs_in : List SessionCarried → List (List ℕ)
 runs_in ss = map (λ s. map (λ (c : FileCarried). length c.runs) s.files) ss
 
 one_count : (token handle : ℕ) (s : Option FileState) (c : CarriedFile) (ram : Ram) → IsCarriedAs token s c → length (file_in ram c).runs ≡ length (file_carried token handle s).runs
-one_count token handle s c ram h = ap (λ (x : FileCarried). length x.runs) (h.is (ram_for s) handle (holds_for s))
+one_count token handle s c ram h = let same : IsAs c (file_carried token handle s) = h.is handle in ap length same.runs
 
 files_counts : (objects : List (Option object.Object)) (w : World) (ram : Ram) (es : List (ℕ × Listed)) (cs : List CarriedFile) → AreFilesOf objects w (map reference_of es) cs
     → map (λ (c : FileCarried). length c.runs) (map (file_in ram) cs) ≡ map (λ (c : FileCarried). length c.runs) (map (listed_carried w) es)
@@ -133,29 +144,26 @@ needs_same kernel c w ram g agrees shape =
     ∙ (λ i. need_by ((g.shape ∙ sym shape) i).frames (sessions_counts kernel.objects w ram (finmap.entries (registry_at w).outgoing) c.sessions (g.sessions w agrees) i))
     ∙ sym (need_is (frozen w))
 
--- ---- one page at most
+-- ---- memfds of orders that runs may have
 
-abbrev pub OnePage : FileCarried → Type 0
-OnePage c = (c.kind ≡ Memfd) × (c.order ≡ 0) × (length c.runs ≤ 1)
+abbrev pub IsMemfdCarried : FileCarried → Type 0
+IsMemfdCarried c = (c.kind ≡ Memfd) × (c.order ≤ MAX_ORDER)
 
-file_page : (token : ℕ) (s : Option FileState) (c : CarriedFile) (ram : Ram) → IsCarriedAs token s c → OnePage (file_in ram c)
-file_page token s c ram h = (h.memfd, h.single, subst (λ n. n ≤ 1) (sym (length-map c.runs (λ (p : Pfn). p.0))) h.few)
-
-files_pages : (objects : List (Option object.Object)) (w : World) (ram : Ram) (rs : List Reference) (cs : List CarriedFile) → AreFilesOf objects w rs cs → All OnePage (map (file_in ram) cs)
+files_memfds : (objects : List (Option object.Object)) (w : World) (ram : Ram) (rs : List Reference) (cs : List CarriedFile) → AreFilesOf objects w rs cs → All IsMemfdCarried (map (file_in ram) cs)
 unfolding AreFilesOf
-files_pages objects w ram [] [] h = All-nil OnePage
-files_pages objects w ram [] (c ∷ cs) h = absurd h
-files_pages objects w ram (r ∷ rs) [] h = absurd h
-files_pages objects w ram (r ∷ rs) (c ∷ cs) h =
-    All-cons OnePage (file_in ram c) (map (file_in ram) cs) (file_page r.token (file_at w r.file) c ram h.0.carried) (files_pages objects w ram rs cs h.1)
+files_memfds objects w ram [] [] h = All-nil IsMemfdCarried
+files_memfds objects w ram [] (c ∷ cs) h = absurd h
+files_memfds objects w ram (r ∷ rs) [] h = absurd h
+files_memfds objects w ram (r ∷ rs) (c ∷ cs) h =
+    All-cons IsMemfdCarried (file_in ram c) (map (file_in ram) cs) (h.0.carried.memfd, h.0.carried.small) (files_memfds objects w ram rs cs h.1)
 
-sessions_pages : (objects : List (Option object.Object)) (w : World) (ram : Ram) (es : List (List ℕ × ℕ)) (cs : List CarriedSession) → AreSessionsOf objects w es cs → All OnePage (flat_map (λ (s : SessionCarried). s.files) (map (session_in ram) cs))
+sessions_memfds : (objects : List (Option object.Object)) (w : World) (ram : Ram) (es : List (List ℕ × ℕ)) (cs : List CarriedSession) → AreSessionsOf objects w es cs → All IsMemfdCarried (flat_map (λ (s : SessionCarried). s.files) (map (session_in ram) cs))
 unfolding AreSessionsOf
-sessions_pages objects w ram [] [] h = All-nil OnePage
-sessions_pages objects w ram [] (c ∷ cs) h = absurd h
-sessions_pages objects w ram (e ∷ es) [] h = absurd h
-sessions_pages objects w ram (e ∷ es) (c ∷ cs) h =
-    All-append OnePage (map (file_in ram) c.files) (flat_map (λ (s : SessionCarried). s.files) (map (session_in ram) cs)) (files_pages objects w ram _ c.files h.0.files) (sessions_pages objects w ram es cs h.1)
+sessions_memfds objects w ram [] [] h = All-nil IsMemfdCarried
+sessions_memfds objects w ram [] (c ∷ cs) h = absurd h
+sessions_memfds objects w ram (e ∷ es) [] h = absurd h
+sessions_memfds objects w ram (e ∷ es) (c ∷ cs) h =
+    All-append IsMemfdCarried (map (file_in ram) c.files) (flat_map (λ (s : SessionCarried). s.files) (map (session_in ram) cs)) (files_memfds objects w ram _ c.files h.0.files) (sessions_memfds objects w ram es cs h.1)
 
 -- a world that the objects make
 abbrev world_of : List (Option object.Object) → World
@@ -164,26 +172,29 @@ world_of objects = record { number = 0; at = λ n. unwrap_or (states_in objects 
 agrees_with : (objects : List (Option object.Object)) → Agrees (world_of objects) objects
 agrees_with objects = λ n s other is. ap (λ o. unwrap_or o Nothing) is
 
-pub one_page : (kernel : KernelValue) (c : Carried) (ram : Ram) → IsGathered kernel c → All OnePage (carried_files (state_in ram c))
-one_page kernel c ram g =
-    sessions_pages kernel.objects (world_of kernel.objects) ram _ c.sessions (g.sessions (world_of kernel.objects) (agrees_with kernel.objects))
+pub all_memfds : (kernel : KernelValue) (c : Carried) (ram : Ram) → IsGathered kernel c → All IsMemfdCarried (carried_files (state_in ram c))
+all_memfds kernel c ram g =
+    sessions_memfds kernel.objects (world_of kernel.objects) ram _ c.sessions (g.sessions (world_of kernel.objects) (agrees_with kernel.objects))
 
--- all orders are 0
-files_single : (objects : List (Option object.Object)) (w : World) (rs : List Reference) (cs : List CarriedFile) → AreFilesOf objects w rs cs → All (λ (c : CarriedFile). c.order.0 ≡ 0) cs
+-- as they are gathered
+abbrev IsSmall : CarriedFile → Type 0
+IsSmall c = c.order.0 ≤ MAX_ORDER
+
+files_small : (objects : List (Option object.Object)) (w : World) (rs : List Reference) (cs : List CarriedFile) → AreFilesOf objects w rs cs → All IsSmall cs
 unfolding AreFilesOf
-files_single objects w [] [] h = All-nil (λ (c : CarriedFile). c.order.0 ≡ 0)
-files_single objects w [] (c ∷ cs) h = absurd h
-files_single objects w (r ∷ rs) [] h = absurd h
-files_single objects w (r ∷ rs) (c ∷ cs) h = All-cons (λ (c : CarriedFile). c.order.0 ≡ 0) c cs h.0.carried.single (files_single objects w rs cs h.1)
+files_small objects w [] [] h = All-nil IsSmall
+files_small objects w [] (c ∷ cs) h = absurd h
+files_small objects w (r ∷ rs) [] h = absurd h
+files_small objects w (r ∷ rs) (c ∷ cs) h = All-cons IsSmall c cs h.0.carried.small (files_small objects w rs cs h.1)
 
-sessions_single : (objects : List (Option object.Object)) (w : World) (es : List (List ℕ × ℕ)) (cs : List CarriedSession) → AreSessionsOf objects w es cs → All (λ (c : CarriedFile). c.order.0 ≡ 0) (flat_map (λ (s : CarriedSession). s.files) cs)
+sessions_small : (objects : List (Option object.Object)) (w : World) (es : List (List ℕ × ℕ)) (cs : List CarriedSession) → AreSessionsOf objects w es cs → All IsSmall (flat_map (λ (s : CarriedSession). s.files) cs)
 unfolding AreSessionsOf
-sessions_single objects w [] [] h = All-nil (λ (c : CarriedFile). c.order.0 ≡ 0)
-sessions_single objects w [] (c ∷ cs) h = absurd h
-sessions_single objects w (e ∷ es) [] h = absurd h
-sessions_single objects w (e ∷ es) (c ∷ cs) h =
-    All-append (λ (c : CarriedFile). c.order.0 ≡ 0) c.files (flat_map (λ (s : CarriedSession). s.files) cs) (files_single objects w _ c.files h.0.files) (sessions_single objects w es cs h.1)
+sessions_small objects w [] [] h = All-nil IsSmall
+sessions_small objects w [] (c ∷ cs) h = absurd h
+sessions_small objects w (e ∷ es) [] h = absurd h
+sessions_small objects w (e ∷ es) (c ∷ cs) h =
+    All-append IsSmall c.files (flat_map (λ (s : CarriedSession). s.files) cs) (files_small objects w _ c.files h.0.files) (sessions_small objects w es cs h.1)
 
-pub all_single : (kernel : KernelValue) (c : Carried) → IsGathered kernel c → All (λ (f : CarriedFile). f.order.0 ≡ 0) (flat_map (λ (s : CarriedSession). s.files) c.sessions)
-all_single kernel c g =
-    sessions_single kernel.objects (world_of kernel.objects) _ c.sessions (g.sessions (world_of kernel.objects) (agrees_with kernel.objects))
+pub all_small : (kernel : KernelValue) (c : Carried) → IsGathered kernel c → All (λ (f : CarriedFile). f.order.0 ≤ MAX_ORDER) (flat_map (λ (s : CarriedSession). s.files) c.sessions)
+all_small kernel c g =
+    sessions_small kernel.objects (world_of kernel.objects) _ c.sessions (g.sessions (world_of kernel.objects) (agrees_with kernel.objects))

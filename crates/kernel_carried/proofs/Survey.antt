@@ -1,23 +1,21 @@
 -- What is known of all files of a kernel.
-use Rattle.std.proofs.Common.{◌≡◌, ℕ, ◌+◌, ◌<◌, ◌≤◌, length, Bool, true, false, List, [], ◌∷◌, ◌++◌, map, refl, ap, sym, ◌∙◌, subst, arith, inl, inr, zero, suc, cond}
-use Rattle.std.specs.Prelude.{Option, None, Some, MatchOption, option_map, ◌⊎◌, nat_lt}
+use Rattle.std.proofs.Common.{◌≡◌, ℕ, ◌+◌, ◌<◌, Bool, true, false, List, [], ◌∷◌, ◌++◌, map, refl, ap, sym, ◌∙◌, subst, arith, inl, inr, zero, suc, cond}
+use Rattle.std.specs.Prelude.{Option, None, Some, MatchOption, ◌⊎◌, nat_lt}
 use Rattle.std.specs.FinMap as finmap
 use Rattle.std.specs.List.{All, flat_map}
 use Rattle.std.proofs.lemmas.Bool.Decides.{nat_tests}
 use Rattle.std.proofs.lemmas.Grind.{flat_map-append}
 use Rattle.std.proofs.lemmas.List.Elements.{All-head, All-tail, All-map}
 use Rattle.ho_base.specs.Objects.{file_no, session_no}
-use Rattle.ho_base.specs.declared.limits.TheConstants.{FILES, OUT_SLOTS, PAGE_BYTES}
-use Rattle.ho_base.specs.declared.numbers.Kind.TheVariants.{Memfd}
-use Rattle.ho_base.specs.declared.numbers.Pfn.{Pfn}
+use Rattle.ho_base.specs.declared.limits.TheConstants.{FILES, OUT_SLOTS}
 use Rattle.ho_events.specs.Contents.{Reference, reference_of, OfFiles, session_content}
 use Rattle.ho_events.specs.File.{FileState, is_device}
 use Rattle.ho_events.specs.History.{session_from}
 use Rattle.ho_events.specs.Lists.{upto}
 use Rattle.ho_events.specs.Session.{SessionState, Listed, Free, Out, In, files_of}
 use Rattle.ho_world.specs.Frozen.{Preserved, preserved_as, preserved_in, preserved_devices}
-use Rattle.ho_world.specs.World.{World, FileIn, file_at, session_at}
-use Rattle.memfd_file.specs.Files.{IsOnePage}
+use Rattle.ho_world.specs.World.{World, file_at, session_at}
+use Rattle.memfd_file.specs.Files.{IsMemfdFile}
 use Rattle.memfd_file.specs.FileValues.{FileValue, FileIs}
 use Rattle.session_core.specs.SessionShown.{reference, AreFiles}
 use Rattle.session_core.specs.SessionValues.{SessionValue}
@@ -25,7 +23,7 @@ use Rattle.machine_core.specs.declared.object.Object as object
 use Rattle.machine_core.specs.declared.object.Object.TheVariants.{Session, File}
 use Rattle.machine_core.specs.Kernels.{object_at}
 use Rattle.machine_core.specs.Worlds.{states_in}
-use Rattle.kernel_carried.specs.Gathered.{Agrees, AreMemfds, IsMemfdIn, IsSmall, ListFiles, listed_in}
+use Rattle.kernel_carried.specs.Gathered.{Agrees, AreMemfds, IsMemfdIn, ListFiles, listed_in}
 use Rattle.kernel_carried.proofs.Carried.{listed_is}
 use Rattle.kernel_carried.proofs.States.{file_stands, file_there}
 
@@ -49,15 +47,10 @@ none_below P n lt = absurd (omega (arith, lt))
 
 -- ---- memfds
 
-kind_of : (page : Option Pfn) (s : Option FileState) → MatchOption s (page ≡ None) (IsOnePage page) → MatchOption s (Unit {0}) IsSmall
-kind_of page None h = tt
-kind_of None (Some f) h = record { kind = h.0; order = h.1; size = subst (λ (l : List ℕ). length l ≤ PAGE_BYTES) (sym h.2) (omega arith) }
-kind_of (Some p) (Some f) h = record { kind = h.0; order = h.1; size = h.2 }
-
-pub memfd_in : (objects : List (Option object.Object)) (n : ℕ) (v : FileValue) (page : Option Pfn) → object_at objects (file_no n) ≡ Some (File v) → FileIs v (λ s. MatchOption s (page ≡ None) (IsOnePage page)) → IsMemfdIn (states_in objects (file_no n))
-memfd_in objects n v page at h =
-    let st = file_stands objects (file_no n) v (λ s. MatchOption s (page ≡ None) (IsOnePage page)) at h in
-    record { state = st.state; is = st.is; memfd = kind_of page st.state st.holds }
+pub memfd_in : (objects : List (Option object.Object)) (n : ℕ) (v : FileValue) → object_at objects (file_no n) ≡ Some (File v) → FileIs v (λ s. MatchOption s (Unit {0}) IsMemfdFile) → IsMemfdIn (states_in objects (file_no n))
+memfd_in objects n v at h =
+    let st = file_stands objects (file_no n) v (λ s. MatchOption s (Unit {0}) IsMemfdFile) at h in
+    record { state = st.state; is = st.is; memfd = st.holds }
 
 -- ---- slots
 
@@ -67,7 +60,7 @@ lists_files objects w slot v files agrees at content are =
 
 -- ---- device files
 
-device_none : (name : List ℕ) (e : ℕ × Listed) (s : Option FileState) → MatchOption s (Unit {0}) IsSmall → preserved_as name e s ≡ []
+device_none : (name : List ℕ) (e : ℕ × Listed) (s : Option FileState) → MatchOption s (Unit {0}) IsMemfdFile → preserved_as name e s ≡ []
 device_none name e None h = refl
 device_none name e (Some f) h = ap (λ k. cond (is_device k) (record { name = name; token = e.0; kind = f.kind; file = e.1.file; handle = e.1.handle } ∷ []) []) h.kind
 

@@ -10,12 +10,12 @@ use ho_base::limits::{FILES, OUT_SLOTS};
 use ho_base::numbers::{FileNo, SlotNo};
 use machine_core::Kernel;
 
-/// Each file is a memfd of at most one page. Nothing is done.
+/// Each file is a memfd of an order that runs may have. Nothing is done.
 fn are_memfds(kernel: &Kernel)
     ensures { AreMemfds kernel.now.objects }
 {
     for file in 0..FILES as u16 {
-        let _page = kernel.file(FileNo(file)).page();
+        let _facts = kernel.file(FileNo(file)).facts();
     }
 }
 
@@ -28,8 +28,8 @@ fn list_files(kernel: &Kernel)
     }
 }
 
-/// No outgoing session lists a device file, and each file is a memfd of at most one page. Nothing is done; it costs the
-/// number of files and slots.
+/// No outgoing session lists a device file, and each file is a memfd of an order that runs may have. Nothing is done; it
+/// costs the number of files and slots.
 pub fn has_no_devices(kernel: &Kernel)
     ensures memfds { AreMemfds kernel.now.objects }
     ensures devices { (w : World) → Agrees w kernel.now.objects → preserved_devices w ≡ [] }

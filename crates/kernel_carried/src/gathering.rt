@@ -1,11 +1,13 @@
 //! What a kexec carries, gathered from a kernel's objects.
 
-ghost use Rattle.std.specs.Prelude.{◌≡◌, ◌+◌, ◌^◌, ◌<◌, IfOk, map};
+ghost use Rattle.std.specs.Prelude.{◌≡◌, ◌+◌, ◌^◌, ◌<◌, IfOk, IsSome, None, map};
 ghost use Rattle.std.specs.List.{All};
 ghost use Rattle.ho_base.specs.declared.limits.TheConstants.{IN_SLOTS, OUT_SLOTS};
-ghost use Rattle.ho_world.specs.Acts.{frame_list};
+ghost use Rattle.ho_events.specs.File as files;
+ghost use Rattle.ho_events.specs.Lists.{firsts};
 ghost use Rattle.ho_world.specs.World.{World};
 ghost use Rattle.memfd_file.specs.FileValues.{FileIs};
+ghost use Rattle.memfd_file.specs.Files.{FileHas};
 ghost use Rattle.registry_core.specs.Outgoing.{with_number};
 ghost use Rattle.session_core.specs.SessionShown.{reference, AreFiles};
 ghost use Rattle.kernel_carried.specs.Gathered.{Agrees, AreFilesOf, AreSessionsOf, HaveSlots, IsCarriedAs, IsGathered, IsSessionOf};
@@ -19,16 +21,15 @@ use memfd_file::FileObject;
 use record_frames::{Carried, CarriedFile, CarriedSession};
 use std::alloc::Global;
 
-/// The run of a page that there may be.
-fn runs_of(alloc: Global, page: Option<Pfn>) -> Result<Items<Pfn>, NoMemory>
-    ensures { IfOk result (λ runs. runs ≡ frame_list page) }
+/// The first frames of all runs of a file that is there, by index.
+fn runs_of(alloc: Global, file: &FileObject) -> Result<Items<Pfn>, NoMemory>
+    requires { FileIs file.now IsSome }
+    ensures { IfOk result (λ runs. FileHas file.now (λ f. firsts runs ≡ files.runs_of f)) }
 {
-    let mut runs = Vec::new(alloc);
-    if let Some(page) = page {
-        if runs.push(page).is_err() {
-            return Err(NoMemory);
-        }
-    }
+    let Ok(mut runs) = Vec::with_capacity(alloc, file.index_count() as usize) else {
+        return Err(NoMemory);
+    };
+    file.add_runs(&mut runs);
     Ok(Items::from_vec(runs))
 }
 
@@ -37,23 +38,37 @@ fn fits(token: Token)
     ensures { token.0 < 2 ^ 64 }
 {}
 
+/// A file that isn't there, as it is carried under a token.
+fn empty_file(alloc: Global, token: Token) -> CarriedFile
+    ensures { IsCarriedAs token.0 None result }
+{
+    fits(token);
+    CarriedFile {
+        token,
+        kind: Kind::Memfd,
+        order: Order(0),
+        size: 0,
+        position: 0,
+        handle: 0,
+        runs: Items::new(alloc),
+    }
+}
+
 /// A file as it is carried under a token. One that isn't there is carried as an empty memfd.
 fn carried_file(alloc: Global, file: &FileObject, token: Token) -> Result<CarriedFile, NoMemory>
     ensures { IfOk result (λ c. FileIs file.now (λ s. IsCarriedAs token.0 s c)) }
 {
     fits(token);
-    let page = file.page();
-    let runs = runs_of(alloc, page)?;
-    let (size, position) = match file.facts() {
-        None => (0, 0),
-        Some(facts) => (facts.size, facts.position),
+    let Some(facts) = file.facts() else {
+        return Ok(empty_file(alloc, token));
     };
+    let runs = runs_of(alloc, file)?;
     Ok(CarriedFile {
         token,
-        kind: Kind::Memfd,
-        order: Order(0),
-        size,
-        position,
+        kind: facts.kind,
+        order: facts.order,
+        size: facts.size,
+        position: facts.position,
         handle: 0,
         runs,
     })

@@ -1,22 +1,20 @@
 -- What a boot reads.
 use Rattle.std.proofs.Common.{◌≡◌, ◌≢◌, ℕ, true, false, List, [], ◌∷◌, map, Result, Ok, Err, refl, sym, ap, subst, ◌∙◌, inr}
-use Rattle.std.specs.Prelude.{IsTrue, IfErr, IfOk, ◌&&◌, ◌==◌, nat_le}
+use Rattle.std.specs.Prelude.{IsTrue, IfErr, IfOk, ◌&&◌, ◌==◌}
 use Rattle.std.specs.List.{list_all, flat_map}
 use Rattle.std.proofs.lemmas.Bool.{and_parts, eqb-true, eq-eqb, and_from}
-use Rattle.std.proofs.lemmas.List.{length-map}
 use Rattle.std.proofs.lemmas.List.Folds.{list_all-append}
 use Rattle.ho_base.specs.ShapeRule.{Layout}
-use Rattle.ho_base.specs.declared.numbers.Pfn.{Pfn}
 use Rattle.ho_base.specs.declared.shape.Area.{Area}
-use Rattle.ho_world.specs.Frozen.{CarriedSession as SessionState}
+use Rattle.ho_world.specs.Frozen.{CarriedFile as FileState, CarriedSession as SessionState}
 use Rattle.record_frames.specs.Ram.{Ram}
 use Rattle.record_frames.specs.Carries.{Carries}
 use Rattle.record_frames.specs.State.{file_in, session_in, state_in}
 use Rattle.record_frames.specs.declared.carried.Carried.{Carried}
 use Rattle.record_frames.specs.declared.carried.CarriedFile.{CarriedFile}
 use Rattle.record_frames.specs.declared.carried.CarriedSession.{CarriedSession}
-use Rattle.next_laws.specs.Begins.{is_memfd, is_one_page, are_one_page}
-use Rattle.kexec_boot.specs.Checked.{IsMisfit, all_one_page, has_page, same_area, same_areas, same_shape}
+use Rattle.next_laws.specs.Begins.{is_memfd, are_memfds}
+use Rattle.kexec_boot.specs.Checked.{IsMisfit, all_memfds, is_memfd_file, same_area, same_areas, same_shape}
 use Rattle.kexec_boot.specs.Refused.{IsUnread}
 use Rattle.kexec_boot.specs.declared.reading.BootError.{BootError}
 use Rattle.kexec_boot.specs.declared.reading.BootError.TheVariants.{BadImage, Unbuilt, Memory}
@@ -56,27 +54,24 @@ shape_self a = and_from (a.frames == a.frames) (same_areas a.scratch a.scratch) 
 shape_other : (a b : Layout) → same_shape a b ≡ false → a ≢ b
 shape_other a b h same = let no : true ≡ false = sym (shape_self a) ∙ ap (same_shape a) same ∙ h in absurd cc
 
--- ---- files of one page
+-- ---- memfds
 
-page_same : (ram : Ram) (f : CarriedFile) → is_one_page (file_in ram f) ≡ has_page f
-page_same ram f = ap (λ n. is_memfd f.kind && f.order.0 == 0 && nat_le n 1) (length-map f.runs (λ (r : Pfn). r.0))
-
-files_same : (ram : Ram) (fs : List CarriedFile) → list_all is_one_page (map (file_in ram) fs) ≡ list_all has_page fs
+files_same : (ram : Ram) (fs : List CarriedFile) → list_all (λ (c : FileState). is_memfd c.kind) (map (file_in ram) fs) ≡ list_all is_memfd_file fs
 files_same ram [] = refl
-files_same ram (f ∷ fs) = λ j. page_same ram f j && files_same ram fs j
+files_same ram (f ∷ fs) = ap (λ b. is_memfd f.kind && b) (files_same ram fs)
 
-pub built_same : (ram : Ram) (ss : List CarriedSession) → list_all is_one_page (flat_map (λ (s : SessionState). s.files) (map (session_in ram) ss)) ≡ all_one_page ss
+pub built_same : (ram : Ram) (ss : List CarriedSession) → list_all (λ (c : FileState). is_memfd c.kind) (flat_map (λ (s : SessionState). s.files) (map (session_in ram) ss)) ≡ all_memfds ss
 built_same ram [] = refl
 built_same ram (s ∷ ss) =
-    list_all-append is_one_page (map (file_in ram) s.files) (flat_map (λ (s : SessionState). s.files) (map (session_in ram) ss))
+    list_all-append (λ (c : FileState). is_memfd c.kind) (map (file_in ram) s.files) (flat_map (λ (s : SessionState). s.files) (map (session_in ram) ss))
     ∙ (λ j. files_same ram s.files j && built_same ram ss j)
 
 -- ---- refusals
 
 misfit : (shape : Layout) (ram : Ram) (entry : ℕ) (c : Carried) (e : BootError) → Carries ram entry (state_in ram c) → IsMisfit c shape e → IsUnread shape ram entry e
 misfit shape ram entry c (BadImage p) carries (root, other) = inr (root, record { state = state_in ram c; carries = carries; other = shape_other c.shape shape other })
-misfit shape ram entry c Unbuilt carries (same, several) =
-    (state_in ram c, carries, shape_same c.shape shape same, λ yes. absurd (let bad : true ≡ false = sym yes ∙ built_same ram c.sessions ∙ several in cc))
+misfit shape ram entry c Unbuilt carries (same, devices) =
+    (state_in ram c, carries, shape_same c.shape shape same, λ yes. absurd (let bad : true ≡ false = sym yes ∙ built_same ram c.sessions ∙ devices in cc))
 misfit shape ram entry c Memory carries h = absurd h
 
 pub unread : (shape : Layout) (ram : Ram) (entry : ℕ) (c : Carried) (r : Result Carried BootError) → Carries ram entry (state_in ram c) → IfErr r (IsMisfit c shape) → IfErr r (IsUnread shape ram entry)
@@ -93,6 +88,6 @@ pub read_shape : (shape : Layout) (c : Carried) (r : Result Carried BootError) �
 read_shape shape c (Ok d) same h = ap (λ (x : Carried). x.shape) same ∙ shape_same c.shape shape h
 read_shape shape c (Err e) same h = same
 
-pub read_pages : (ram : Ram) (c : Carried) (r : Result Carried BootError) → IfOk r (λ d. d ≡ c) → IfOk r (λ d. all_one_page c.sessions ≡ true) → IfOk r (λ d. IsTrue (are_one_page (state_in ram d)))
-read_pages ram c (Ok d) same h = ap (λ (x : Carried). are_one_page (state_in ram x)) same ∙ built_same ram c.sessions ∙ h
-read_pages ram c (Err e) same h = same
+pub read_memfds : (ram : Ram) (c : Carried) (r : Result Carried BootError) → IfOk r (λ d. d ≡ c) → IfOk r (λ d. all_memfds c.sessions ≡ true) → IfOk r (λ d. IsTrue (are_memfds (state_in ram d)))
+read_memfds ram c (Ok d) same h = ap (λ (x : Carried). are_memfds (state_in ram x)) same ∙ built_same ram c.sessions ∙ h
+read_memfds ram c (Err e) same h = same

@@ -13,7 +13,7 @@ use Rattle.record_frames.specs.Sheeted.{ram_of}
 use Rattle.record_frames.specs.declared.place.ImagePlace.{ImagePlace}
 use Rattle.scratch_area.specs.declared.handoff.Handoff.{Handoff}
 use Rattle.scratch_laws.specs.Scratch.{StayBeside, ScratchIsFree}
-use Rattle.next_laws.specs.Begins.{are_one_page}
+use Rattle.next_laws.specs.Begins.{are_memfds}
 use Rattle.kexec_boot.specs.Begins.{BeginsAs}
 use Rattle.kexec_boot.specs.Loaded.{with_blob}
 use Rattle.kexec_boot.specs.Refused.{IsIll, IsUnread, IsBootRefusal, IsWant}
@@ -54,8 +54,8 @@ module _ (h : Handoff) (blob : Blob) (new : Ram) (few : new.count ≤ MAX_FRAMES
   pub refusal : (e : BootError) → IsUnread h.shape new h.entry.0 e → IsBootRefusal h blob e
   refusal (BadImage p) ill =
       (subst (λ (r : Ram). IsIll h.shape r h.entry.0 p) loaded ill, none_before h.shape (ram_of h.frames) new h.entry.0 few beside scratch one none p ill)
-  refusal Unbuilt (g, after, same, several) =
-      λ f before yes. several (subst (λ (x : Frozen). IsTrue (are_one_page x)) (only_one h.shape (ram_of h.frames) new h.entry.0 few beside scratch one none f g before after same) yes)
+  refusal Unbuilt (g, after, same, devices) =
+      λ f before yes. devices (subst (λ (x : Frozen). IsTrue (are_memfds x)) (only_one h.shape (ram_of h.frames) new h.entry.0 few beside scratch one none f g before after same) yes)
   refusal Memory unread = tt
 
   want : (e : BootError) → IsWant e → IsBootRefusal h blob e

@@ -2,9 +2,9 @@ pub mod Adding
 pub mod BootReads
 pub mod BootSteps
 pub mod CarriedParts
+pub mod FileSteps
 pub mod HeldSteps
 pub mod LoadedPages
 pub mod NextWorld
 pub mod OpenSteps
-pub mod PageSteps
 pub mod WaitingSteps

@@ -15,8 +15,8 @@ use Rattle.ho_world.specs.Frozen.{CarriedFile as FileOf, CarriedSession as Sessi
 use Rattle.ho_world.specs.World.{Nothing, PoolIn, RegistryIn, HandlerIn, SessionIn, FileIn, by_number}
 use Rattle.machine_core.specs.Kernels.{if_built, slot_state, begins_with}
 use Rattle.machine_core.specs.Objects.{PoolSpot, RegistrySpot, SessionSpot, FileSpot, NoSpot, spot_at}
-use Rattle.pool_core.specs.PoolFlags.{opened}
 use Rattle.phys_frames.specs.Memory.{Memory}
+use Rattle.pool_frames.specs.PoolAdopting.{adopted_pool, adopted_run}
 use Rattle.record_frames.specs.Ram.{Ram}
 use Rattle.record_frames.specs.Sheeted.{ram_of}
 use Rattle.record_frames.specs.State.{file_in, session_in, state_in}
@@ -25,11 +25,11 @@ use Rattle.record_frames.specs.declared.carried.CarriedSession.{CarriedSession}
 use Rattle.registry_core.specs.Registries.{waiting_registry}
 use Rattle.session_core.specs.SessionShown.{TokensRise}
 use Rattle.session_core.specs.Sessions.{fresh_incoming}
-use Rattle.next_laws.specs.Begins.{are_one_page, PoolIsNext, RegistryIsNext, SessionIsNext}
+use Rattle.next_laws.specs.Begins.{are_memfds, PoolIsNext, RegistryIsNext, SessionIsNext}
 use Rattle.next_laws.specs.Follows.{CanBegin}
-use Rattle.kexec_boot.specs.Pages.{pages_in, page_runs, state_with}
+use Rattle.kexec_boot.specs.Files.{plain_in, runs_in, states_with}
 use Rattle.kexec_boot.specs.Waiting.{TokensOfAll, waiting_from}
-use Rattle.kexec_boot.proofs.CarriedParts.{names_same, listed_same, count_same, pages_count, states_same, runs_same, can_wait}
+use Rattle.kexec_boot.proofs.CarriedParts.{names_same, listed_same, count_same, files_count, states_same, runs_same, can_wait}
 
 -- ---- states by number
 
@@ -96,29 +96,31 @@ held_at [] (suc i) = refl
 held_at (c ∷ cs) zero = refl
 held_at (c ∷ cs) (suc i) = held_at cs i
 
-files_same : (m : Memory) (c : Carried) → are_one_page (state_in (ram_of m) c) ≡ true → (i : ℕ) → slice_index_or (map (state_with m) (pages_in c.sessions)) i None ≡ next_file (state_in (ram_of m) c) i
-files_same m c pages i =
-    ap (λ l. slice_index_or l i None) (states_same m c.sessions pages) ∙ held_at (carried_files (state_in (ram_of m) c)) i
+files_same : (m : Memory) (c : Carried) → are_memfds (state_in (ram_of m) c) ≡ true → (i : ℕ)
+    → slice_index_or (states_with (plain_in c.sessions) (map (adopted_run m) (runs_in c.sessions))) i None ≡ next_file (state_in (ram_of m) c) i
+files_same m c memfds i =
+    ap (λ l. slice_index_or l i None) (states_same m c.sessions memfds) ∙ held_at (carried_files (state_in (ram_of m) c)) i
 
 -- ---- all objects
 
-pub pool_same : (ram : Ram) (c : Carried) → PoolIsNext → CanBegin (state_in ram c) → are_one_page (state_in ram c) ≡ true → opened c.shape (page_runs (pages_in c.sessions)) [] ≡ next_pool (state_in ram c)
-pool_same ram c law can pages = ap (λ runs. opened c.shape runs []) (runs_same ram c.sessions pages) ∙ law (state_in ram c) can.bounds
+pub pool_same : (ram : Ram) (c : Carried) → PoolIsNext → CanBegin (state_in ram c) → adopted_pool c.shape (runs_in c.sessions) ≡ next_pool (state_in ram c)
+pool_same ram c law can = ap (adopted_pool c.shape) (runs_same ram c.sessions) ∙ law (state_in ram c) can.bounds
 
 pub registry_same : (ram : Ram) (c : Carried) → RegistryIsNext → CanBegin (state_in ram c)
-    → waiting_registry (map (λ (s : CarriedSession). s.name) c.sessions) (length (pages_in c.sessions)) ≡ next_registry (state_in ram c)
+    → waiting_registry (map (λ (s : CarriedSession). s.name) c.sessions) (length (plain_in c.sessions)) ≡ next_registry (state_in ram c)
 registry_same ram c law can =
-    (λ j. waiting_registry (sym (names_same ram c.sessions) j) ((pages_count c.sessions ∙ sym (count_same ram c.sessions)) j)) ∙ law (state_in ram c) can.distinct
+    (λ j. waiting_registry (sym (names_same ram c.sessions) j) ((files_count c.sessions ∙ sym (count_same ram c.sessions)) j)) ∙ law (state_in ram c) can.distinct
 
 -- the parts with which a kernel begins, and the world that follows
 pub next_begun : (m : Memory) (c : Carried) (pool : PoolState) (registry : RegistryState) (sessions : List SessionState) (files : List (Option FileState)) → PoolIsNext → RegistryIsNext → SessionIsNext
-    → CanBegin (state_in (ram_of m) c) → are_one_page (state_in (ram_of m) c) ≡ true → pool ≡ opened c.shape (page_runs (pages_in c.sessions)) []
-    → registry ≡ waiting_registry (map (λ (s : CarriedSession). s.name) c.sessions) (length (pages_in c.sessions)) → sessions ≡ waiting_from 0 c.sessions → files ≡ map (state_with m) (pages_in c.sessions)
+    → CanBegin (state_in (ram_of m) c) → are_memfds (state_in (ram_of m) c) ≡ true → pool ≡ adopted_pool c.shape (runs_in c.sessions)
+    → registry ≡ waiting_registry (map (λ (s : CarriedSession). s.name) c.sessions) (length (plain_in c.sessions)) → sessions ≡ waiting_from 0 c.sessions
+    → files ≡ states_with (plain_in c.sessions) (map (adopted_run m) (runs_in c.sessions))
     → (n : ℕ) → begins_with pool registry sessions files n ≡ if_built (spot_at n) ((next (state_in (ram_of m) c)).at n)
-next_begun m c pool registry sessions files pools registries waits can pages p r s f n =
+next_begun m c pool registry sessions files pools registries waits can memfds p r s f n =
     let ram = ram_of m in
     let g : Frozen = state_in ram c in
     world_same pool (next_pool g) registry (next_registry g) (λ k. cold_handler) (next_handler g) (slot_state sessions) (next_session g) (λ i. slice_index_or files i None) (next_file g)
-    (p ∙ pool_same ram c pools can pages) (r ∙ registry_same ram c registries can)
+    (p ∙ pool_same ram c pools can) (r ∙ registry_same ram c registries can)
     (λ i. ap (λ l. slot_state l i) s ∙ slots_same ram c waits (can_wait ram c can).tokens i)
-    (λ i. ap (λ l. slice_index_or l i None) f ∙ files_same m c pages i) n
+    (λ i. ap (λ l. slice_index_or l i None) f ∙ files_same m c memfds i) n

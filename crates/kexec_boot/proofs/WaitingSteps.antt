@@ -13,7 +13,7 @@ use Rattle.record_frames.specs.declared.carried.CarriedSession.{CarriedSession}
 use Rattle.session_core.specs.SessionShown.{AreFiles}
 use Rattle.session_core.specs.SessionValues.{SessionValue}
 use Rattle.session_core.specs.Sessions.{fresh_incoming}
-use Rattle.kexec_boot.specs.Pages.{listed_from}
+use Rattle.kexec_boot.specs.Files.{listed_from}
 use Rattle.kexec_boot.specs.Waiting.{waiting_from}
 
 abbrev pub starts : List SessionValue → List SessionState

@@ -1,5 +1,5 @@
--- What a boot looks at in what is carried: its shape, and whether each file has at most one page.
-use Rattle.std.specs.Prelude.{◌≡◌, Bool, true, false, ◌&&◌, ◌==◌, nat_le, List, [], ◌∷◌, length}
+-- What a boot looks at in what is carried: its shape, and whether each file is a memfd.
+use Rattle.std.specs.Prelude.{◌≡◌, Bool, true, false, ◌&&◌, ◌==◌, List, [], ◌∷◌}
 use Rattle.std.specs.List.{list_all}
 use Rattle.ho_base.specs.ShapeRule.{Layout}
 use Rattle.ho_base.specs.declared.shape.Area.{Area}
@@ -24,17 +24,17 @@ same_areas (a ∷ as') (b ∷ bs) = same_area a b && same_areas as' bs
 abbrev pub same_shape : Layout → Layout → Bool
 same_shape a b = a.frames == b.frames && same_areas a.scratch b.scratch
 
--- a file is a memfd of single frames with at most one page
-abbrev pub has_page : CarriedFile → Bool
-has_page f = is_memfd f.kind && f.order.0 == 0 && nat_le (length f.runs) 1
+-- a file is a memfd
+abbrev pub is_memfd_file : CarriedFile → Bool
+is_memfd_file f = is_memfd f.kind
 
 -- each file of these sessions is
-abbrev pub all_one_page : List CarriedSession → Bool
-all_one_page [] = true
-all_one_page (s ∷ ss) = list_all has_page s.files && all_one_page ss
+abbrev pub all_memfds : List CarriedSession → Bool
+all_memfds [] = true
+all_memfds (s ∷ ss) = list_all is_memfd_file s.files && all_memfds ss
 
--- Why this isn't what a kernel of a machine of this shape begins with: it has another shape, or a file that has no single page.
+-- Why this isn't what a kernel of a machine of this shape begins with: it has another shape, or a device file.
 abbrev pub IsMisfit : Carried → Layout → BootError → Type 0
 IsMisfit c shape (BadImage p) = (p ≡ Root) × (same_shape c.shape shape ≡ false)
-IsMisfit c shape Unbuilt = (same_shape c.shape shape ≡ true) × (all_one_page c.sessions ≡ false)
+IsMisfit c shape Unbuilt = (same_shape c.shape shape ≡ true) × (all_memfds c.sessions ≡ false)
 IsMisfit c shape Memory = ⊥

@@ -1,7 +1,7 @@
 pub mod Begins
 pub mod Checked
+pub mod Files
 pub mod Loaded
-pub mod Pages
 pub mod Prepared
 pub mod Refused
 pub mod Waiting

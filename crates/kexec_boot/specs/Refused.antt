@@ -10,7 +10,7 @@ use Rattle.record_frames.specs.Sheeted.{ram_of}
 use Rattle.record_frames.specs.declared.place.ImagePlace.{ImagePlace}
 use Rattle.record_frames.specs.declared.place.ImagePlace.TheVariants.{Root}
 use Rattle.scratch_area.specs.declared.handoff.Handoff.{Handoff}
-use Rattle.next_laws.specs.Begins.{are_one_page}
+use Rattle.next_laws.specs.Begins.{are_memfds}
 use Rattle.kexec_boot.specs.Loaded.{with_blob}
 use Rattle.kexec_boot.specs.declared.reading.BootError.{BootError}
 use Rattle.kexec_boot.specs.declared.reading.BootError.TheVariants.{BadImage, Unbuilt, Memory}
@@ -25,21 +25,19 @@ pub record CarryOther (shape : Layout) (ram : Ram) (entry : ℕ) : Type 0 where
 abbrev pub IsIll : Layout → Ram → ℕ → ImagePlace → Type 0
 IsIll shape ram entry p = BreakAt ram entry p ⊎ ((p ≡ Root) × CarryOther shape ram entry)
 
--- Why frames of a machine of this shape aren't booted from: they are ill; or a file that they carry has more than one page, or is
--- none of a memfd's single frames.
+-- Why frames of a machine of this shape aren't booted from: they are ill; or a file that they carry is a device file.
 abbrev pub IsUnread : Layout → Ram → ℕ → BootError → Type 0
 IsUnread shape ram entry (BadImage p) = IsIll shape ram entry p
-IsUnread shape ram entry Unbuilt = (f : Frozen) × Carries ram entry f × (f.shape ≡ shape) × ¬ (IsTrue (are_one_page f))
+IsUnread shape ram entry Unbuilt = (f : Frozen) × Carries ram entry f × (f.shape ≡ shape) × ¬ (IsTrue (are_memfds f))
 IsUnread shape ram entry Memory = Unit {0}
 
 -- Why a boot is refused. `BadImage`: the frames as the program left them are ill at this place, and so they carried nothing of
--- the machine's shape before. `Unbuilt`: they carry nothing whose files are all memfds of single frames with at most one page.
--- Of want of memory nothing is said.
+-- the machine's shape before. `Unbuilt`: they carry nothing whose files are all memfds. Of want of memory nothing is said.
 abbrev pub IsBootRefusal : Handoff → Blob → BootError → Type 0
 IsBootRefusal h blob (BadImage p) =
     IsIll h.shape (with_blob h.shape blob (ram_of h.frames)) h.entry.0 p
     × ((f : Frozen) → Carries (ram_of h.frames) h.entry.0 f → f.shape ≢ h.shape)
-IsBootRefusal h blob Unbuilt = (f : Frozen) → Carries (ram_of h.frames) h.entry.0 f → ¬ (IsTrue (are_one_page f))
+IsBootRefusal h blob Unbuilt = (f : Frozen) → Carries (ram_of h.frames) h.entry.0 f → ¬ (IsTrue (are_memfds f))
 IsBootRefusal h blob Memory = Unit {0}
 
 -- only memory was wanted

@@ -5,7 +5,7 @@ use Rattle.ho_events.specs.Session.{SessionState}
 use Rattle.record_frames.specs.declared.carried.CarriedSession.{CarriedSession}
 use Rattle.session_core.specs.SessionShown.{TokensRise}
 use Rattle.session_core.specs.Sessions.{fresh_incoming}
-use Rattle.kexec_boot.specs.Pages.{listed_from}
+use Rattle.kexec_boot.specs.Files.{listed_from}
 
 -- the states of these sessions, whose files have the numbers from one on
 abbrev pub waiting_from : ℕ → List CarriedSession → List SessionState

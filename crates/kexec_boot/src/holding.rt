@@ -1,111 +1,119 @@
-//! The carried files, held with their pages.
+//! The carried files, held with their folios.
 
-ghost use Rattle.std.specs.Prelude.{◌≡◌, ◌*◌, ◌+◌, ◌++◌, ◌∷◌, ◌<◌, ◌≤◌, [], flat_map, length, map, vec_len, vec_capacity};
+ghost use Rattle.std.specs.Prelude.{◌≡◌, ◌*◌, ◌+◌, ◌^◌, ◌++◌, ◌∷◌, ◌<◌, ◌≤◌, [], IfOk, IfErr, OnOk, OnErr, drop, flat_map, length, map, min, reverse, take, vec_len, vec_capacity};
 ghost use Rattle.std.specs.List.{All};
-ghost use Rattle.std.specs.Vec.Iter.{into_iter_items, into_iter_len};
-ghost use Rattle.ho_base.specs.declared.limits.TheConstants.{FILES, PAGE_BYTES};
+ghost use Rattle.ho_base.specs.declared.limits.TheConstants.{FILES, MAX_ORDER, PAGE_BYTES};
 ghost use Rattle.ho_base.specs.Objects.{file_no};
+ghost use Rattle.phys_frames.specs.Memory.{AreOf};
 ghost use Rattle.machine_core.specs.Kernels.{AreHeld};
-ghost use Rattle.kexec_boot.specs.Pages.{all_folios, folios_of, state_with};
-ghost use Rattle.kexec_boot.specs.Prepared.{HasOneRoom};
+ghost use Rattle.kexec_boot.specs.Files.{FitAll, FitsFolios, bytes_with, state_with, states_with};
 
-use crate::pages::PageFile;
+use crate::files::PlainFile;
 use crate::prepared::Store;
-use ho_base::numbers::{FileNo, Kind, ObjectNo, Order, Pfn};
+use ho_base::limits::PAGE_BYTES;
+use ho_base::numbers::{FileNo, Kind, NoMemory, ObjectNo, Order};
 use memfd_file::FileObject;
-use phys_frames::{Folio, Frames, Home};
+use phys_frames::{Folio, Home};
 use pool_core::Pool;
 use std::alloc::Global;
-use std::snapshot::Snapshot;
-use std::vec::IntoIter;
 
-/// Holds carried files with their folios, which were taken from these frames: the store has all of them in order, and room for the
-/// files.
+/// Holds carried files, of which the store has all folios in order, and room for the files. `Err`: out of memory; the
+/// first files are held then, and the store has the folios of the others.
+#[tactic(auto, using(crate::proofs::HeldSteps::holding_begins, crate::proofs::HeldSteps::fits_next, crate::proofs::HeldSteps::of_left_over, crate::proofs::HeldSteps::holding_more, crate::proofs::HeldSteps::none_rest, crate::proofs::HeldSteps::all_held))]
 pub(crate) fn hold_all(
     alloc: Global,
     pool: &Pool,
-    taken: &Snapshot<Frames>,
-    pages: &[PageFile],
-    store: Store,
-) -> Vec<FileObject>
-    requires folios { store.folios.items ≡ all_folios taken.now.value pages.now }
-    requires lists { length store.lists.items ≡ length pages.now }
-    requires rooms { All HasOneRoom store.lists.items }
-    requires files { store.files.items ≡ [] }
-    requires room { length pages.now ≤ vec_capacity store.files }
-    requires few { length pages.now ≤ FILES }
-    requires home { pool.now.home ≡ taken.now.value.home }
-    ensures starts { map (λ f. f.start) result.items ≡ map (state_with taken.now.value) pages.now }
-    ensures held { AreHeld pool.now.home 0 result.items }
-    ensures count { length result.items ≡ length pages.now }
+    files: &[PlainFile],
+    store: &mut Store,
+) -> Result<(), NoMemory>
+    requires fits { FitAll pool.now.home files.now store.old.folios.items }
+    requires none { store.old.files.items ≡ [] }
+    requires room { length files.now ≤ vec_capacity store.old.files }
+    requires few { length files.now ≤ FILES }
+    ensures starts { OnOk result (map (λ f. f.start) store.new.files.items ≡ states_with files.now store.old.folios.items) }
+    ensures all { OnOk result (store.new.folios.items ≡ []) }
+    ensures held { AreHeld pool.now.home 0 store.new.files.items }
+    ensures few { length store.new.files.items ≤ FILES }
+    ensures of_home { AreOf pool.now.home store.new.folios.items }
 {
-    let Store {
-        folios,
-        mut lists,
-        mut files,
-    } = store;
-    let mut folios = folios.into_iter();
-    hold_each(
-        alloc,
-        pool,
-        taken,
-        pages,
-        &mut folios,
-        &mut lists,
-        &mut files,
-    );
-    folios.destroy_empty();
-    lists.destroy_empty();
-    files
+    store.folios.reverse();
+    for file in files {
+        hold_next(alloc, pool, *file, store)?;
+    }
+    Ok(())
 }
 
-/// Holds the files that are left.
-#[tactic(auto, using(crate::proofs::HeldSteps::held_more, crate::proofs::HeldSteps::starts_held))]
-fn hold_each(
-    alloc: Global,
-    pool: &Pool,
-    taken: &Snapshot<Frames>,
-    left: &[PageFile],
-    folios: &mut IntoIter<Folio>,
-    lists: &mut Vec<Vec<Folio>>,
-    files: &mut Vec<FileObject>,
-)
-    requires folios { into_iter_items folios.old ≡ all_folios taken.now.value left.now }
-    requires len { into_iter_len folios.old ≡ length (into_iter_items folios.old) }
-    requires lists { length lists.old.items ≡ length left.now }
-    requires rooms { All HasOneRoom lists.old.items }
-    requires room { vec_len files.old + length left.now ≤ vec_capacity files.old }
-    requires few { length files.old.items + length left.now ≤ FILES }
-    requires home { pool.now.home ≡ taken.now.value.home }
-    requires held { AreHeld pool.now.home 0 files.old.items }
-    ensures folios { into_iter_len folios.new ≡ 0 }
-    ensures lists { lists.new.items ≡ [] }
-    ensures starts { map (λ f. f.start) files.new.items ≡ map (λ f. f.start) files.old.items ++ map (state_with taken.now.value) left.now }
-    ensures held { AreHeld pool.now.home 0 files.new.items }
-    ensures count { length files.new.items ≡ length files.old.items + length left.now }
+/// Holds a file with the folios that come next, which are the last ones of the store. `Err`: out of memory, and then all
+/// folios stay in the store.
+#[tactic(auto, using(crate::proofs::HeldSteps::begun_push, crate::proofs::HeldSteps::of_left, crate::proofs::HeldSteps::moved_back))]
+fn hold_next(alloc: Global, pool: &Pool, file: PlainFile, store: &mut Store) -> Result<(), NoMemory>
+    requires fits { FitsFolios pool.now.home file (take file.count (reverse store.old.folios.items)) }
+    requires of_home { AreOf pool.now.home store.old.folios.items }
+    requires room { vec_len store.old.files < vec_capacity store.old.files }
+    requires few { length store.old.files.items < FILES }
+    requires held { AreHeld pool.now.home 0 store.old.files.items }
+    ensures start { OnOk result (map (λ f. f.start) store.new.files.items ≡ map (λ f. f.start) store.old.files.items ++ state_with file (take file.count (reverse store.old.folios.items)) ∷ []) }
+    ensures rest { OnOk result (reverse store.new.folios.items ≡ drop file.count (reverse store.old.folios.items)) }
+    ensures count { OnOk result (vec_len store.new.files ≡ vec_len store.old.files + 1) }
+    ensures room { vec_capacity store.old.files ≤ vec_capacity store.new.files }
+    ensures held { AreHeld pool.now.home 0 store.new.files.items }
+    ensures of_home { AreOf pool.now.home store.new.folios.items }
+    ensures stays { OnErr result (store.new.files.items ≡ store.old.files.items) }
 {
-    match left.split_first() {
-        None => {}
-        Some((file, rest)) => {
-            let list = take_list(lists);
-            let list = with_page(taken, file.page, rest, folios, list);
-            let at = ObjectNo::of_file(FileNo(files.len() as u16));
-            let held = hold_one(alloc, at, pool.home(), taken, *file, list);
-            add_file(pool, held, files);
-            hold_each(alloc, pool, taken, rest, folios, lists, files);
+    let list = next_folios(alloc, file.count, &mut store.folios)?;
+    let at = ObjectNo::of_file(FileNo(store.files.len() as u16));
+    match hold_one(alloc, at, pool.home(), file, list) {
+        Ok(held) => {
+            add_file(pool, held, &mut store.files);
+            Ok(())
+        }
+        Err(mut list) => {
+            store.folios.append(&mut list).unwrap();
+            list.destroy_empty();
+            Err(NoMemory)
         }
     }
 }
 
-/// Takes one of the lists.
-fn take_list(lists: &mut Vec<Vec<Folio>>) -> Vec<Folio>
-    requires some { 0 < length lists.old.items }
-    requires rooms { All HasOneRoom lists.old.items }
-    ensures room { HasOneRoom result }
-    ensures rooms { All HasOneRoom lists.new.items }
-    ensures count { length lists.new.items + 1 ≡ length lists.old.items }
+/// Takes so many folios from the end of the list, the last one first. `Err`: out of memory, and then the list stays.
+#[tactic(auto, using(crate::proofs::HeldSteps::moving_begins, crate::proofs::HeldSteps::moved_front, crate::proofs::HeldSteps::moved_rest))]
+fn next_folios(alloc: Global, count: usize, folios: &mut Vec<Folio>) -> Result<Vec<Folio>, NoMemory>
+    requires enough { count ≤ vec_len folios.old }
+    ensures taken { IfOk result (λ v. v.items ≡ take count (reverse folios.old.items)) }
+    ensures rest { IfOk result (λ v. reverse folios.new.items ≡ drop count (reverse folios.old.items)) }
+    ensures long { IfOk result (λ v. All (λ f. length f.bytes ≡ PAGE_BYTES * 2 ^ f.order.0) v.items) }
+    ensures room { IfOk result (λ v. vec_len folios.new + vec_len v ≤ vec_capacity folios.new) }
+    ensures stays { OnErr result (folios.new.items ≡ folios.old.items) }
 {
-    lists.pop().unwrap()
+    let Ok(mut list) = Vec::with_capacity(alloc, count) else {
+        return Err(NoMemory);
+    };
+    while list.len() < count {
+        move_one(folios, &mut list);
+    }
+    Ok(list)
+}
+
+/// Moves the last folio of one list to the end of another.
+#[tactic(auto, using(crate::proofs::HeldSteps::moved_one))]
+fn move_one(folios: &mut Vec<Folio>, list: &mut Vec<Folio>)
+    requires some { 0 < vec_len folios.old }
+    requires room { vec_len list.old < vec_capacity list.old }
+    requires long { All (λ f. length f.bytes ≡ PAGE_BYTES * 2 ^ f.order.0) list.old.items }
+    ensures moved { list.new.items ++ reverse folios.new.items ≡ list.old.items ++ reverse folios.old.items }
+    ensures long { All (λ f. length f.bytes ≡ PAGE_BYTES * 2 ^ f.order.0) list.new.items }
+    ensures count { vec_len list.new ≡ vec_len list.old + 1 }
+    ensures left { vec_len folios.new + 1 ≡ vec_len folios.old }
+    ensures capacity { vec_capacity list.new ≡ vec_capacity list.old }
+    ensures room { vec_capacity folios.new ≡ vec_capacity folios.old }
+{
+    match folios.pop() {
+        Some(folio) => {
+            let _bytes = folio.bytes();
+            list.push_reserved(folio);
+        }
+        None => unreachable!(),
+    }
 }
 
 /// Adds a file, which has the next number.
@@ -123,69 +131,40 @@ fn add_file(pool: &Pool, file: FileObject, files: &mut Vec<FileObject>)
     files.push(file).unwrap();
 }
 
-/// The list with the next folio, where a file has a page; the files after it are `_rest`.
-fn with_page(
-    taken: &Snapshot<Frames>,
-    page: Option<Pfn>,
-    _rest: &[PageFile],
-    folios: &mut IntoIter<Folio>,
-    mut list: Vec<Folio>,
-) -> Vec<Folio>
-    requires room { HasOneRoom list }
-    requires next { into_iter_items folios.old ≡ folios_of taken.now.value page ++ all_folios taken.now.value _rest.now }
-    requires len { into_iter_len folios.old ≡ length (into_iter_items folios.old) }
-    ensures list { result.items ≡ folios_of taken.now.value page }
-    ensures rest { into_iter_items folios.new ≡ all_folios taken.now.value _rest.now }
-    ensures len { into_iter_len folios.new ≡ length (into_iter_items folios.new) }
-{
-    match page {
-        None => {}
-        Some(_) => match folios.next() {
-            Some(folio) => list.push(folio).unwrap(),
-            None => unreachable!(),
-        },
-    }
-    list
-}
-
-/// A held file with the folio in this list, if there is one.
+/// A held file with these folios. Where there is no memory for it they come back.
 fn hold_one(
     alloc: Global,
     at: ObjectNo,
     home: Home,
-    taken: &Snapshot<Frames>,
-    file: PageFile,
-    list: Vec<Folio>,
-) -> FileObject
-    requires list { list.items ≡ folios_of taken.now.value file.page }
-    requires home { home ≡ taken.now.value.home }
-    ensures number { result.number ≡ at.0 }
-    ensures home { result.home ≡ home }
-    ensures start { result.start ≡ state_with taken.now.value file }
-    ensures history { result.history ≡ [] }
+    file: PlainFile,
+    folios: Vec<Folio>,
+) -> Result<FileObject, Vec<Folio>>
+    requires fits { FitsFolios home file folios.items }
+    requires long { All (λ f. length f.bytes ≡ PAGE_BYTES * 2 ^ f.order.0) folios.items }
+    ensures number { IfOk result (λ f. f.number ≡ at.0) }
+    ensures home { IfOk result (λ f. f.home ≡ home) }
+    ensures start { IfOk result (λ f. f.start ≡ state_with file folios.items) }
+    ensures history { IfOk result (λ f. f.history ≡ []) }
+    ensures back { IfErr result (λ back. back.items ≡ folios.items) }
 {
-    let room = room_in(&list);
     FileObject::held(
         alloc,
         at,
         home,
         Kind::Memfd,
-        Order(0),
-        file.size.min(room),
+        file.order,
+        size_of(file),
         file.position,
-        list,
+        folios,
     )
 }
 
-/// How many bytes a list of at most one folio of order 0 has.
-fn room_in(list: &Vec<Folio>) -> u32
-    requires few { length list.now.items ≤ 1 }
-    requires single { All (λ f. f.order.0 ≡ 0) list.now.items }
-    ensures value { result ≡ PAGE_BYTES * length list.now.items }
-    ensures bytes { length (flat_map (λ f. f.bytes) list.now.items) ≡ result }
+/// How many bytes a file has: no more than its runs.
+fn size_of(file: PlainFile) -> u32
+    requires order { file.order.0 ≤ MAX_ORDER }
+    requires few { file.count < 2 ^ 32 }
+    ensures { result ≡ min file.size (file.count * (PAGE_BYTES * 2 ^ file.order.0)) }
 {
-    match list.first() {
-        None => 0,
-        Some(folio) => folio.bytes().len() as u32,
-    }
+    let room = file.count * (PAGE_BYTES as usize * (1usize << file.order.0));
+    (file.size as usize).min(room) as u32
 }

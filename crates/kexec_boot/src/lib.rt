@@ -2,9 +2,9 @@
 #![tactic(auto)]
 
 mod boots;
+mod files;
 mod holding;
 mod loading;
-mod pages;
 mod prepared;
 mod reading;
 mod waiting;

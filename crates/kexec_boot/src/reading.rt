@@ -6,8 +6,8 @@ ghost use Rattle.phys_frames.specs.Memory.{AllHome};
 ghost use Rattle.record_frames.specs.Carries.{Carries};
 ghost use Rattle.record_frames.specs.State.{state_in};
 ghost use Rattle.record_frames.specs.Sheeted.{ram_of};
-ghost use Rattle.next_laws.specs.Begins.{is_memfd, are_one_page};
-ghost use Rattle.kexec_boot.specs.Checked.{IsMisfit, all_one_page, has_page, same_area, same_areas, same_shape};
+ghost use Rattle.next_laws.specs.Begins.{is_memfd, are_memfds};
+ghost use Rattle.kexec_boot.specs.Checked.{IsMisfit, all_memfds, is_memfd_file, same_area, same_areas, same_shape};
 ghost use Rattle.kexec_boot.specs.Refused.{IsUnread};
 
 use ho_base::numbers::{Kind, Pfn};
@@ -23,14 +23,14 @@ pub enum BootError {
     /// The frames carry nothing for this machine; the first place whose rules break, and the root where they carry a
     /// state of another shape.
     BadImage(ImagePlace),
-    /// A file is carried that this stage can't hold: a device file, one of longer runs, or one with several.
+    /// A device file is carried, which isn't built yet.
     Unbuilt,
     /// Out of memory.
     Memory,
 }
 
 /// What frames carry for a machine of this shape, from the entry frame's number on: its shape is this one, and each file
-/// has at most one page.
+/// is a memfd.
 pub(crate) fn read(
     alloc: Global,
     frames: &Frames,
@@ -40,7 +40,7 @@ pub(crate) fn read(
     requires home { AllHome frames.now }
     ensures carries { IfOk result (λ c. Carries (ram_of frames.now) entry.0 (state_in (ram_of frames.now) c)) }
     ensures shape { IfOk result (λ c. c.shape ≡ shape.now) }
-    ensures pages { IfOk result (λ c. IsTrue (are_one_page (state_in (ram_of frames.now) c))) }
+    ensures memfds { IfOk result (λ c. IsTrue (are_memfds (state_in (ram_of frames.now) c))) }
     ensures refused { IfErr result (IsUnread shape.now (ram_of frames.now) entry.0) }
 {
     match survey(alloc, frames, u64::from(entry.0)) {
@@ -50,11 +50,11 @@ pub(crate) fn read(
     }
 }
 
-/// What is carried, where its shape is this one and each file has at most one page.
+/// What is carried, where its shape is this one and each file is a memfd.
 fn checked(carried: Carried, shape: &Shape) -> Result<Carried, BootError>
     ensures same { IfOk result (λ c. c ≡ carried) }
     ensures shape { IfOk result (λ c. same_shape carried.shape shape.now ≡ true) }
-    ensures pages { IfOk result (λ c. all_one_page carried.sessions ≡ true) }
+    ensures memfds { IfOk result (λ c. all_memfds carried.sessions ≡ true) }
     ensures refused { IfErr result (IsMisfit carried shape.now) }
 {
     if is_same(&carried.shape, shape) {
@@ -95,31 +95,24 @@ fn is_twin(one: &Area, other: &Area) -> bool
     one.first.0 == other.first.0 && one.count == other.count
 }
 
-/// Whether each file of these sessions has at most one page, and is a memfd of single frames.
+/// Whether each file of these sessions is a memfd.
 fn is_built(sessions: &[CarriedSession]) -> bool
-    ensures { result ≡ all_one_page sessions.now }
+    ensures { result ≡ all_memfds sessions.now }
 {
     match sessions.split_first() {
         None => true,
-        Some((session, rest)) => have_one_page(session.files.as_slice()) && is_built(rest),
+        Some((session, rest)) => are_built(session.files.as_slice()) && is_built(rest),
     }
 }
 
-/// Whether each of these files has at most one page.
-fn have_one_page(files: &[CarriedFile]) -> bool
-    ensures { result ≡ list_all has_page files.now }
+/// Whether each of these files is a memfd.
+fn are_built(files: &[CarriedFile]) -> bool
+    ensures { result ≡ list_all is_memfd_file files.now }
 {
     match files.split_first() {
         None => true,
-        Some((file, rest)) => has_one_page(file) && have_one_page(rest),
+        Some((file, rest)) => is_memfd_kind(file.kind) && are_built(rest),
     }
-}
-
-/// Whether a file is a memfd of single frames with at most one.
-fn has_one_page(file: &CarriedFile) -> bool
-    ensures { result ≡ has_page file.now }
-{
-    is_memfd_kind(file.kind) && file.order.0 == 0 && file.runs.len() <= 1
 }
 
 /// Whether a kind is a memfd.

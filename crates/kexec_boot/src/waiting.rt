@@ -6,7 +6,7 @@ ghost use Rattle.ho_base.specs.Objects.{session_no};
 ghost use Rattle.machine_core.specs.Kernels.{AreWaiting};
 ghost use Rattle.session_core.specs.SessionShown.{TokensRise};
 ghost use Rattle.session_core.specs.Sessions.{fresh_incoming};
-ghost use Rattle.kexec_boot.specs.Pages.{listed_from};
+ghost use Rattle.kexec_boot.specs.Files.{listed_from};
 ghost use Rattle.kexec_boot.specs.Waiting.{CanWait, TokensOfAll, files_of, waiting_from};
 
 use ho_base::limits::OUT_SLOTS;

@@ -7,5 +7,6 @@ mod reading;
 mod surveying;
 mod users;
 
+pub use pages::hold_pages;
 pub use record_frames::{Carried, CarriedBound, CarriedFile, CarriedSession, ImagePlace, need};
 pub use surveying::{SurveyError, survey};

@@ -14,7 +14,7 @@ fn are_bytes(page: &[u8])
 {}
 
 /// Each frame holds a page of bytes: all frames are home. Only where the pages stand is looked at, and no byte of them.
-pub(crate) fn hold_pages(frames: &Frames)
+pub fn hold_pages(frames: &Frames)
     requires home { AllHome frames.now }
     ensures { Holds (ram_of frames.now) }
 {

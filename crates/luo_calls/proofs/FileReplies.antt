@@ -1,25 +1,18 @@
 -- Which replies come of a file, and which folios it gives up.
-use Rattle.std.proofs.Common.{◌≡◌, ℕ, List, [], ◌∷◌, ◌++◌, map, refl, ap, sym, subst, ◌∙◌}
-use Rattle.std.specs.Prelude.{Option, Some, None, MatchOption}
-use Rattle.ho_base.specs.declared.numbers.Pfn.{Pfn}
+use Rattle.std.proofs.Common.{◌≡◌, ℕ, ◌+◌, ◌≤◌, List, [], ◌∷◌, ◌++◌, length, refl, ap, sym, subst, ◌∙◌, arith}
+use Rattle.std.specs.Prelude.{Option, Some, None, MatchOption, option_map}
+use Rattle.std.specs.FinMap as finmap
+use Rattle.ho_base.specs.declared.numbers.Order.{Order}
 use Rattle.phys_frames.specs.Homes.{HomeId}
-use Rattle.phys_frames.specs.Memory.{FolioValue, AreOf, first_frames}
-use Rattle.ho_events.specs.File.{FileState}
+use Rattle.phys_frames.specs.Memory.{FolioValue}
+use Rattle.ho_events.specs.File.{FileState, runs_of}
 use Rattle.ho_events.specs.declared.reply.Reply.{Reply}
-use Rattle.ho_events.specs.declared.reply.Reply.TheVariants.{NotFinished, AlreadyPinned, OkRuns, Kept, KeptRuns, Gone}
-use Rattle.memfd_file.specs.Files.{IsPinAnswer, IsUnpinAnswer, IsCloseFdAnswer, given_up, folio_of}
-use Rattle.luo_calls.specs.Replies.{IsPinReply, IsUnpinReply, IsCloseFdReply, IsGivenUp}
-
-pin_is : (f : FileState) → (v : Reply) → IsPinAnswer f v → IsPinReply v
-pin_is f NotFinished h = tt
-pin_is f AlreadyPinned h = tt
-pin_is f (OkRuns runs) h = tt
-pin_is f v h = absurd h
-
-pub pin_replied : (s : Option (Option FileState)) → (v : Reply) → MatchOption s ⊥ (λ t. MatchOption t ⊥ (λ f. IsPinAnswer f v)) → IsPinReply v
-pin_replied None v h = absurd h
-pin_replied (Some None) v h = absurd h
-pin_replied (Some (Some f)) v h = pin_is f v h
+use Rattle.ho_events.specs.declared.reply.Reply.TheVariants.{Kept, KeptRuns, Gone}
+use Rattle.file_folios.specs.FileAnswers.{facts_of}
+use Rattle.memfd_file.specs.Files.{IsUnpinAnswer, IsCloseFdAnswer, given_up}
+use Rattle.luo_calls.specs.Memfds.{IsMemfd}
+use Rattle.luo_calls.specs.Replies.{IsUnpinReply, IsCloseFdReply, IsGivenUp}
+use Rattle.luo_calls.proofs.Folios.{at_runs_begin, at_runs_home, at_runs_order}
 
 unpin_is : (f : FileState) → (v : Reply) → IsUnpinAnswer f v → IsUnpinReply v
 unpin_is f (KeptRuns runs) h = tt
@@ -41,35 +34,43 @@ close_fd_replied None v h = absurd h
 close_fd_replied (Some None) v h = absurd h
 close_fd_replied (Some (Some f)) v h = close_fd_is f v h
 
-runs_back : (home : HomeId) → (bytes : List ℕ) → (runs : List Pfn) → first_frames (map (λ r. folio_of home bytes r.0) runs) ≡ runs
-runs_back home bytes [] = refl
-runs_back home bytes (r ∷ runs) = ap (λ more. r ∷ more) (runs_back home bytes runs)
+-- there is room for all runs where there is room for all indexes
+pub runs_fit : (s : Option (Option FileState)) (have count room : ℕ) → have + count ≤ room → MatchOption s ⊥ (λ t. MatchOption t ⊥ (λ f. length (runs_of f) ≤ count)) → MatchOption s ⊥ (λ t. MatchOption t ⊥ (λ f. have + length (runs_of f) ≤ room))
+runs_fit None have count room fits h = absurd h
+runs_fit (Some None) have count room fits h = absurd h
+runs_fit (Some (Some f)) have count room fits h = omega (arith, fits, h)
 
-of_home : (home : HomeId) → (bytes : List ℕ) → (runs : List Pfn) → AreOf home (map (λ r. folio_of home bytes r.0) runs)
-of_home home bytes [] = tt
-of_home home bytes (r ∷ runs) = (refl, of_home home bytes runs)
+pub runs_listed : (s : Option (Option FileState)) (count room : ℕ) → room ≡ count → MatchOption s ⊥ (λ t. MatchOption t ⊥ (λ f. length (runs_of f) ≤ count)) → MatchOption s ⊥ (λ t. MatchOption t ⊥ (λ f. length (runs_of f) ≤ room))
+runs_listed None count room fits h = absurd h
+runs_listed (Some None) count room fits h = absurd h
+runs_listed (Some (Some f)) count room fits h = omega (arith, fits, h)
 
-given_is : (home : HomeId) → (f : FileState) → (v : Reply) → IsUnpinAnswer f v → IsGivenUp home v (given_up home f v)
-given_is home f (KeptRuns runs) h = refl
-given_is home f (Gone runs) h = (runs_back home f.bytes runs, of_home home f.bytes runs)
-given_is home f v h = absurd h
+-- ---- the folios that it gives up
 
-pub given_says : (s : Option (Option FileState)) → (home own : HomeId) → (v : Reply) → (old new : List FolioValue) → own ≡ home → old ≡ [] → MatchOption s ⊥ (λ t. MatchOption t ⊥ (λ f. IsUnpinAnswer f v)) → MatchOption s ⊥ (λ t. MatchOption t ⊥ (λ f. new ≡ old ++ given_up own f v)) → IsGivenUp home v new
-given_says None home own v old new same empty h g = absurd h
-given_says (Some None) home own v old new same empty h g = absurd h
-given_says (Some (Some f)) home own v old new same empty h g =
-    subst (λ (place : HomeId). IsGivenUp place v new) same
-    (subst (IsGivenUp own v) (sym (g ∙ ap (λ front. front ++ given_up own f v) empty)) (given_is own f v h))
+order_of : (f : FileState) (o : Order) → IsMemfd (Some (facts_of f)) o → f.order ≡ o.0
+order_of f o m = ap (λ (x : Order). x.0) m.1
 
-closed_is : (home : HomeId) → (f : FileState) → (v : Reply) → IsCloseFdAnswer f v → IsGivenUp home v (given_up home f v)
-closed_is home f Kept h = refl
-closed_is home f (Gone runs) h = (runs_back home f.bytes runs, of_home home f.bytes runs)
-closed_is home f v h = absurd h
+given_is : (home : HomeId) (o : Order) (f : FileState) (v : Reply) → IsMemfd (Some (facts_of f)) o → IsUnpinAnswer f v → IsGivenUp home o v (given_up home f v)
+given_is home o f (KeptRuns runs) m h = refl
+given_is home o f (Gone runs) m h = (at_runs_begin f home (finmap.entries f.runs) runs h.1, at_runs_home f home (finmap.entries f.runs), at_runs_order f home o (finmap.entries f.runs) (order_of f o m))
+given_is home o f v m h = absurd h
+
+pub given_says : (s : Option (Option FileState)) (home own : HomeId) (o : Order) (v : Reply) (old new : List FolioValue) → own ≡ home → old ≡ [] → MatchOption s ⊥ (λ t. IsMemfd (option_map facts_of t) o) → MatchOption s ⊥ (λ t. MatchOption t ⊥ (λ f. IsUnpinAnswer f v)) → MatchOption s ⊥ (λ t. MatchOption t ⊥ (λ f. new ≡ old ++ given_up own f v)) → IsGivenUp home o v new
+given_says None home own o v old new same empty m h g = absurd h
+given_says (Some None) home own o v old new same empty m h g = absurd h
+given_says (Some (Some f)) home own o v old new same empty m h g =
+    subst (λ (place : HomeId). IsGivenUp place o v new) same
+    (subst (IsGivenUp own o v) (sym (g ∙ ap (λ front. front ++ given_up own f v) empty)) (given_is own o f v m h))
+
+closed_is : (home : HomeId) (o : Order) (f : FileState) (v : Reply) → IsMemfd (Some (facts_of f)) o → IsCloseFdAnswer f v → IsGivenUp home o v (given_up home f v)
+closed_is home o f Kept m h = refl
+closed_is home o f (Gone runs) m h = (at_runs_begin f home (finmap.entries f.runs) runs h.1, at_runs_home f home (finmap.entries f.runs), at_runs_order f home o (finmap.entries f.runs) (order_of f o m))
+closed_is home o f v m h = absurd h
 
 -- the same at the end of a label's hold
-pub closed_says : (s : Option (Option FileState)) → (home own : HomeId) → (v : Reply) → (old new : List FolioValue) → own ≡ home → old ≡ [] → MatchOption s ⊥ (λ t. MatchOption t ⊥ (λ f. IsCloseFdAnswer f v)) → MatchOption s ⊥ (λ t. MatchOption t ⊥ (λ f. new ≡ old ++ given_up own f v)) → IsGivenUp home v new
-closed_says None home own v old new same empty h g = absurd h
-closed_says (Some None) home own v old new same empty h g = absurd h
-closed_says (Some (Some f)) home own v old new same empty h g =
-    subst (λ (place : HomeId). IsGivenUp place v new) same
-    (subst (IsGivenUp own v) (sym (g ∙ ap (λ front. front ++ given_up own f v) empty)) (closed_is own f v h))
+pub closed_says : (s : Option (Option FileState)) (home own : HomeId) (o : Order) (v : Reply) (old new : List FolioValue) → own ≡ home → old ≡ [] → MatchOption s ⊥ (λ t. IsMemfd (option_map facts_of t) o) → MatchOption s ⊥ (λ t. MatchOption t ⊥ (λ f. IsCloseFdAnswer f v)) → MatchOption s ⊥ (λ t. MatchOption t ⊥ (λ f. new ≡ old ++ given_up own f v)) → IsGivenUp home o v new
+closed_says None home own o v old new same empty m h g = absurd h
+closed_says (Some None) home own o v old new same empty m h g = absurd h
+closed_says (Some (Some f)) home own o v old new same empty m h g =
+    subst (λ (place : HomeId). IsGivenUp place o v new) same
+    (subst (IsGivenUp own o v) (sym (g ∙ ap (λ front. front ++ given_up own f v) empty)) (closed_is own o f v m h))

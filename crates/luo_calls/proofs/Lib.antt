@@ -12,9 +12,10 @@ pub mod Cannot
 pub mod RegistryHalts
 pub mod SessionHalts
 pub mod PoolHalts
-pub mod ReadReplies
-pub mod ReadCommands
+pub mod QueryReplies
+pub mod QueryCommands
 pub mod Folios
+pub mod Counts
 pub mod FileHalts
 pub mod Taken
 pub mod FileReplies
@@ -22,6 +23,8 @@ pub mod WriteTurns
 pub mod Creates
 pub mod Memfds
 pub mod WriteCommands
+pub mod Truncates
 pub mod Preserves
+pub mod PinTurns
 pub mod Closes
 pub mod CloseFds

@@ -20,7 +20,7 @@ use Rattle.luo_calls.specs.Opened.{IsThere, Opens, Holds, without}
 use Rattle.luo_calls.specs.Stuck.{IsAgentCause, IsObjectCause, SticksBefore, SticksAt, SticksWith, Sticks, Turn, turn_of}
 use Rattle.luo_calls.specs.Doing.{SticksAfter}
 use Rattle.luo_calls.proofs.Chains.{then_goes}
-use Rattle.luo_calls.proofs.Sticking.{sticks_more}
+use Rattle.luo_calls.proofs.Sticking.{sticks_any, sticks_more}
 use Rattle.luo_calls.proofs.Opens.{SameButRoom, known_same, there_same}
 use Rattle.luo_calls.proofs.Steps.{at_same, put_back, has, ended_none, goes_none}
 
@@ -227,6 +227,17 @@ sticks_before {V} {W} more on at at' stuck a a' s = record {
   sticks = sticks_more at' s.due more stuck s.middle a' s.sticks;
 }
 
+-- deeds come after those that may come, by how they came out
+pub sticks_front : {V W : List Deed → Type 0} → ((ds : List Deed) → V ds → (more : List Deed) × W (ds ++ more)) → (at at' : At) (stuck : Stuck) (a a' : Agent) → SticksAfter V stuck at at' a a' → SticksAfter W stuck at at' a a'
+sticks_front {V} {W} on at at' stuck a a' s = record {
+  deeds = s.deeds;
+  due = s.due ++ (on _ s.front).0;
+  front = subst W (append_assoc s.deeds s.due (on _ s.front).0) (on _ s.front).1;
+  middle = s.middle;
+  goes = s.goes;
+  sticks = sticks_more at' s.due (on _ s.front).0 stuck s.middle a' s.sticks;
+}
+
 -- ---- sessions and files that get more room
 
 pub session_more : (s t : SessionValue) → t.number ≡ s.number → t.start ≡ s.start → t.history ≡ s.history → SameButRoom (Session s) (Session t)
@@ -312,3 +323,41 @@ goes_from_room ds at at1 n a a1 b room g = record {
   hands = g.hands ∙ ap (λ (x : Agent). with_at n None x.hands) room;
   told = subst (λ t. TellsMore g.made t b.told) (ap (λ (x : Agent). x.told) room) g.told;
 }
+
+-- ---- an open turn, with more room in the agent's log
+
+pub opens_room : (at : At) (n : ℕ) (a a1 a2 : Agent) (o : Object) → Opens at n a a1 o → a2 ≡ record a1 { room = a2.room } → 1 ≤ a2.room → Opens at n a a2 o
+opens_room at n a a1 a2 o opens room log_room = record {
+  found = opens.found;
+  early = opens.early;
+  last = opens.last;
+  room = opens.room;
+  log_room = log_room;
+  same = room ∙ (λ i. record (opens.same i) { room = a2.room; back = (sym (ap (λ (x : Agent). x.back) room)) i });
+}
+
+-- the agent but for the object that it took is as before
+without_is : (at : At) (n : ℕ) (a a1 : Agent) (o : Object) → Opens at n a a1 o → a.hands n ≡ None → without n a1 ≡ record a { room = a1.room; back = a1.back }
+without_is at n a a1 o opens free =
+    λ i. record (opens.same i) { hands = (ap (λ (x : Agent). with_at n None x.hands) opens.same ∙ put_back n (known_of o) a.hands free) i; room = a1.room; back = a1.back }
+
+sticks_room : (at : At) (due : Option Turn) (halt : Halt) (held : Option (ObjectNo × Object)) (a b a2 : Agent) → SticksWith at due halt held (record a { room = b.room; back = b.back }) a2 → SticksWith at due halt held a a2
+sticks_room at due halt None a b a2 s = record { same = s.same; cause = s.cause }
+sticks_room at due halt (Some x) a b a2 s = record {
+  found = there_of (record a { room = b.room; back = b.back }) a x.0.0 x.1 refl refl s.found;
+  free = s.free;
+  same = s.same;
+  cause = s.cause;
+}
+
+-- a turn that can't be taken, seen from before the object was taken
+pub outer_stuck : (due : Option Turn) (at : At) (stuck : Stuck) (n : ℕ) (a a1 a2 : Agent) (o : Object) → Opens at n a a1 o → a.hands n ≡ None → Sticks at due stuck (without n a1) a2 → Sticks at due stuck a a2
+outer_stuck due at stuck n a a1 a2 o opens free s =
+    sticks_room at due stuck.halt stuck.held a a1 a2 (subst (λ (x : Agent). Sticks at due stuck x a2) (without_is at n a a1 o opens free) s)
+
+-- a turn on an object that was taken and went back, since the turn can't be taken
+pub stuck_back : (due : Option Turn) (at : At) (stuck got : Stuck) (m n : ℕ) (a a1 a2 a3 : Agent) (o : Object) → m ≡ n → got ≡ stuck → Opens at n a a1 o → a.hands n ≡ None → Sticks at None stuck a1 a2 → HasEnded a2 m None (a2.hands m) a3 → Sticks at due got a a3
+stuck_back due at stuck got m n a a1 a2 a3 o is same opens free s ended =
+    sticks_any at due got a a3
+    (subst (λ (x : Stuck). Sticks at None x a a3) (sym same)
+    (outer_stuck None at stuck n a a1 a3 o opens free (under_at None at stuck m n a1 a2 a3 o is s (holds_open at n a a1 o opens) ended)))

@@ -1,5 +1,5 @@
 -- The turns of a `preserve`, and its sequences.
-use Rattle.std.proofs.Common.{◌≡◌, ℕ, ◌<◌, Bool, true, false, IsTrue, List, [], ◌∷◌, ◌++◌, length, refl, sym, ap, subst, ◌∙◌, arith, cond}
+use Rattle.std.proofs.Common.{◌≡◌, ℕ, ◌<◌, Bool, true, false, IsTrue, List, [], ◌∷◌, ◌++◌, length, map, refl, sym, ap, subst, ◌∙◌, append_assoc, arith, cond}
 use Rattle.std.specs.Prelude.{Option, None, Some, MatchOption, Result, IfOk, IfErr, OnOk, OnErr}
 use Rattle.std.specs.Prelude as result
 use Rattle.std.specs.FinMap as finmap
@@ -15,16 +15,17 @@ use Rattle.ho_base.specs.declared.numbers.Token.{Token}
 use Rattle.ho_events.specs.Session.{SessionState}
 use Rattle.ho_events.specs.declared.command.Command.TheVariants as command
 use Rattle.ho_events.specs.declared.event.Event.{Event}
-use Rattle.ho_events.specs.declared.event.Event.TheVariants.{FilePin, PoolMark, RegFindOut, SessionAdd}
+use Rattle.ho_events.specs.declared.event.Event.TheVariants.{FilePin, PoolMark, PoolTake, RegFindOut, SessionAdd}
 use Rattle.ho_events.specs.declared.reply.Reply.{Reply}
-use Rattle.ho_events.specs.declared.reply.Reply.TheVariants.{Ok, OkRuns, OkSlot, NoSession, NotFinished, AlreadyPinned, BadFd}
+use Rattle.ho_events.specs.declared.reply.Reply.TheVariants.{Ok, OkRuns, OkSlot, NoFrames, NoFramesOf, NoSession, NotFinished, AlreadyPinned, BadFd, SessionFull, TokenTaken}
 use Rattle.ho_events.specs.declared.slip.At.{At}
-use Rattle.ho_world.specs.Acts.{Claim, IsFile, Sequence, pool, registry, session, file, unless_empty}
+use Rattle.ho_world.specs.Acts.{Act, Claim, IsFile, Sequence, ending, pool, registry, session, file, unless_empty}
 use Rattle.ho_world.specs.Entries.{is_ok}
-use Rattle.ho_world.specs.Logs.{Paired, Deed, deed_at, end_with, AreDone}
+use Rattle.ho_world.specs.Logs.{Paired, Deed, deed_at, deed_of, end_with, AreDone}
 use Rattle.ho_world.specs.Sequences.{Labels, NoFile, Outcome, PreserveCame, command_acts, on_label, preserved}
+use Rattle.ho_world.specs.Sequences.Files.{fits_file}
 use Rattle.ho_world.specs.Sequences.Preserving as preserving
-use Rattle.ho_world.specs.Sequences.Preserving.{is_pin_refusal, is_session_refusal, preserve_acts}
+use Rattle.ho_world.specs.Sequences.Preserving.{PreserveOutcome, is_pin_refusal, is_session_refusal, no_or_fits, preserve_acts, take_holes}
 use Rattle.ho_world.specs.World.{State}
 use Rattle.session_core.specs.Sessions.{add_answer, is_loss, refusal_by, refusal_of}
 use Rattle.machine_core.specs.declared.object.Object.{Object}
@@ -33,14 +34,18 @@ use Rattle.machine_core.specs.Commands.{Comes}
 use Rattle.machine_core.specs.Turns.{Goes}
 use Rattle.luo_calls.specs.Doing.{AreRest, AreWhole, SticksAfter, slot_found}
 use Rattle.luo_calls.specs.Opened.{Opens, without}
-use Rattle.luo_calls.specs.Preserved.{added, marked, preserve_deeds, reply_to, IsPreserved}
-use Rattle.luo_calls.specs.Replies.{IsPinReply}
+use Rattle.luo_calls.specs.Pins.{ArePins, IsPin, pin_deeds, pinned_with}
+use Rattle.luo_calls.specs.Preserved.{added, after_pin, marked, pin_reply, preserve_deeds, reply_to, IsEnd, IsPreserved, PreservesSlot}
 use Rattle.luo_calls.specs.Stuck.{Sticks, turn, turn_of}
 use Rattle.luo_calls.specs.declared.commands.preserve.Preserved.{Preserved}
-use Rattle.luo_calls.specs.declared.commands.preserve.Preserved.TheVariants.{NotAdmitted, NotPinned, Pinned}
+use Rattle.luo_calls.specs.declared.commands.preserve.Preserved.TheVariants.{NotAdmitted, Tried}
+use Rattle.luo_calls.specs.declared.stuck.Stopped.{Stopped}
 use Rattle.luo_calls.specs.declared.stuck.Stuck.{Stuck}
+use Rattle.luo_calls.specs.declared.turns.pin.Pin.{Pin}
+use Rattle.luo_calls.specs.declared.turns.pin.Pin.TheVariants as pin
+use Rattle.luo_calls.specs.declared.turns.pin.Pin.TheVariants.{Refused, Whole}
 use Rattle.luo_calls.proofs.Chains.{then_goes}
-use Rattle.luo_calls.proofs.Nested.{outer_goes, outer_sticks, sticks_before, sticks_later, sticks_next}
+use Rattle.luo_calls.proofs.Nested.{outer_goes, outer_sticks, sticks_before, sticks_front, sticks_later}
 use Rattle.luo_calls.proofs.Steps.{goes_none}
 use Rattle.luo_calls.proofs.Sticking.{whole_by}
 
@@ -62,13 +67,7 @@ pub refused_answer : (h : Option SessionState) (name : List ℕ) (token : ℕ) (
 refused_answer None name token o r v is e a = absurd e
 refused_answer (Some s) name token o r v is e a = subst (λ w. IsTrue (is_session_refusal w)) (sym a) (refused_by _ _ _ r (sym is ∙ e))
 
--- a pin that gives no runs is refused
-pub pin_refused : (r : Reply) → IsPinReply r → ((runs : List Pfn) → r ≡ OkRuns runs → ⊥) → IsTrue (is_pin_refusal r)
-pin_refused NotFinished h other = refl
-pin_refused AlreadyPinned h other = refl
-pin_refused (OkRuns runs) h other = absurd (other runs refl)
-pin_refused r h other = absurd h
-
+-- what the file's pin refuses is a loss
 pub pin_loss : (r : Reply) → IsTrue (is_pin_refusal r) → IsTrue (is_loss r)
 pin_loss NotFinished h = refl
 pin_loss AlreadyPinned h = refl
@@ -110,26 +109,14 @@ unread n claims event reply at at' a a' g = record {
 pub same_runs : (o : Order) (runs rs : List Pfn) (at at' : At) (a a' : Agent) → runs ≡ rs → Goes (marked o runs) at at' a a' → Goes (marked o rs) at at' a a'
 same_runs o runs rs at at' a a' e h = subst (λ xs. Goes (marked o xs) at at' a a') e h
 
--- the file refuses, and the session is told so
-pub lost_goes : (s : SlotNo) (name : List ℕ) (t : Token) (f : FileNo) (claims : List Claim) (r x : Reply) (at at1 at2 : At) (b b1 b2 : Agent) → x ≡ r → Goes (deed_at (file_no f.0) claims (FilePin []) r ∷ []) at at1 b b1 → Goes (added s name t f x) at1 at2 b1 b2 → Goes (preserve_deeds s name t f (NotPinned x)) at at2 b b2
-lost_goes s name t f claims r x at at1 at2 b b1 b2 e h k =
-    then_goes _ _ at at1 at2 b b1 b2 (unread _ claims _ x at at1 b b1 (replied _ claims _ r x at at1 b b1 (sym e) h)) k
-
--- the file is pinned, its runs are marked, and it is added
-pub pinned_goes : (s : SlotNo) (name : List ℕ) (t : Token) (f : FileNo) (o : Order) (runs rs : List Pfn) (v : Snapshot (Items Pfn)) (r : Reply) (at at1 at2 : At) (b b1 b2 : Agent) → r ≡ OkRuns runs → v.value ≡ runs → rs ≡ runs → Goes (deed_at (file_no f.0) (IsFile f Memfd o ∷ []) (FilePin []) r ∷ []) at at1 b b1 → Goes (marked o rs ++ added s name t f Ok) at1 at2 b1 b2 → Goes (preserve_deeds s name t f (Pinned o v)) at at2 b b2
-pinned_goes s name t f o runs rs v r at at1 at2 b b1 b2 replied_it value same h k =
-    then_goes _ _ at at1 at2 b b1 b2
-    (replied _ _ _ r (OkRuns v.value) at at1 b b1 (replied_it ∙ ap OkRuns (sym value)) h)
-    (subst (λ xs. Goes (marked o xs ++ added s name t f Ok) at1 at2 b1 b2) (same ∙ sym value) k)
-
 -- the same, seen from before the session was taken
-pub outer_comes : (s : SlotNo) (name : List ℕ) (t : Token) (f : FileNo) (n : ℕ) (at at1 : At) (a a1 a2 : Agent) (o : Object) (r : Result Preserved Stuck) → Opens at n a a1 o → a.hands n ≡ None → IfOk r (λ p. Goes (preserve_deeds s name t f p) at at1 (without n a1) a2) → IfOk r (λ p. Goes (preserve_deeds s name t f p) at at1 a a2)
+pub outer_comes : (s : SlotNo) (name : List ℕ) (t : Token) (f : FileNo) (n : ℕ) (at at1 : At) (a a1 a2 : Agent) (o : Object) (r : Result Preserved Stopped) → Opens at n a a1 o → a.hands n ≡ None → IfOk r (λ p. Goes (preserve_deeds s name t f p) at at1 (without n a1) a2) → IfOk r (λ p. Goes (preserve_deeds s name t f p) at at1 a a2)
 outer_comes s name t f n at at1 a a1 a2 o (result.Ok p) opens free h = outer_goes _ at at1 n a a1 a2 o opens free h
-outer_comes s name t f n at at1 a a1 a2 o (result.Err stuck) opens free h = tt
+outer_comes s name t f n at at1 a a1 a2 o (result.Err x) opens free h = tt
 
-pub outer_stops : (W : List Deed → Type 0) (n : ℕ) (at at1 : At) (a a1 a2 : Agent) (o : Object) (r : Result Preserved Stuck) → Opens at n a a1 o → a.hands n ≡ None → IfErr r (λ stuck. SticksAfter W stuck at at1 (without n a1) a2) → IfErr r (λ stuck. SticksAfter W stuck at at1 a a2)
+pub outer_stops : (W : List Deed → Type 0) (n : ℕ) (at at1 : At) (a a1 a2 : Agent) (o : Object) (r : Result Preserved Stopped) → Opens at n a a1 o → a.hands n ≡ None → IfErr r (λ x. SticksAfter W x.stuck at at1 (without n a1) a2) → IfErr r (λ x. SticksAfter W x.stuck at at1 a a2)
 outer_stops W n at at1 a a1 a2 o (result.Ok p) opens free h = tt
-outer_stops W n at at1 a a1 a2 o (result.Err stuck) opens free h = outer_sticks at at1 stuck n a a1 a2 o opens free h
+outer_stops W n at at1 a a1 a2 o (result.Err x) opens free h = outer_sticks at at1 x.stuck n a a1 a2 o opens free h
 
 -- ---- sequences
 
@@ -144,17 +131,34 @@ refused_acts name t f s x = record { acts = registry (RegFindOut name) (OkSlot s
 abbrev lost_acts : List ℕ → Token → FileNo → SlotNo → Reply → Sequence
 lost_acts name t f s x = record { acts = registry (RegFindOut name) (OkSlot s) ∷ file f [] (FilePin []) x ∷ session s [] (SessionAdd name t f 0) x ∷ []; reply = x }
 
-abbrev pinned_acts : List ℕ → Token → FileNo → SlotNo → Order → List Pfn → Sequence
-pinned_acts name t f s o runs = record {
+abbrev starved_acts : List ℕ → Token → FileNo → SlotNo → Order → ℕ → Sequence
+starved_acts name t f s o h = record {
   acts =
-      registry (RegFindOut name) (OkSlot s) ∷ file f (IsFile f Memfd o ∷ []) (FilePin []) (OkRuns runs)
-      ∷ (unless_empty runs (pool [] (PoolMark o runs) Ok) ++ session s [] (SessionAdd name t f 0) Ok ∷ []);
+      registry (RegFindOut name) (OkSlot s) ∷ pool (IsFile f Memfd o ∷ []) (PoolTake o h) NoFrames
+      ∷ file f (IsFile f Memfd o ∷ []) (FilePin []) (NoFramesOf h) ∷ session s [] (SessionAdd name t f 0) NoFrames ∷ [];
+  reply = NoFrames;
+}
+
+abbrev pinned_acts : List ℕ → Token → FileNo → SlotNo → Order → List Pfn → List Pfn → Sequence
+pinned_acts name t f s o fills runs = record {
+  acts =
+      registry (RegFindOut name) (OkSlot s)
+      ∷ (take_holes f o fills
+      ++ file f (IsFile f Memfd o ∷ []) (FilePin fills) (OkRuns runs)
+      ∷ (unless_empty runs (pool [] (PoolMark o runs) Ok) ++ session s [] (SessionAdd name t f 0) Ok ∷ []));
   reply = Ok;
 }
 
 -- no slot has the name
 abbrev pub no_slot : List ℕ → List Deed
 no_slot name = deed_at registry_no [] (RegFindOut name) NoSession ∷ []
+
+-- a whole sequence, from the question for the slot on, that ends so
+pub record Ends (name : List ℕ) (token : Token) (f : FileNo) (slot : SlotNo) (ds : List Deed) (x : Reply) : Type 0 where
+  pub outcome : PreserveOutcome
+  pub acts : List Act
+  pub is_one : preserve_acts name token f outcome ≡ ending (registry (RegFindOut name) (OkSlot slot) ∷ acts) x
+  pub deeds_are : ds ++ end_with x ∷ [] ≡ map deed_of acts ++ end_with x ∷ []
 
 -- the deeds of its whole sequences, once the slot was found
 module _ (name : List ℕ) (token : Token) (f : FileNo) where
@@ -167,41 +171,87 @@ module _ (name : List ℕ) (token : Token) (f : FileNo) where
   }
 
   module _ (slot : SlotNo) where
-    pub refused_whole : (x : Reply) → IsTrue (is_session_refusal x) → AreRest (preserve_acts name token f) (slot_found name slot) (added slot name token f x ++ end_with x ∷ [])
-    refused_whole x is = record {
+    refused_ends : (x : Reply) → IsTrue (is_session_refusal x) → Ends name token f slot (added slot name token f x) x
+    refused_ends x is = record {
       outcome = preserving.NotAdmitted slot x;
-      sequence = refused_acts name token f slot x;
+      acts = session slot [] (SessionAdd name token f 0) x ∷ [];
       is_one = ap (λ b. cond b (Some (refused_acts name token f slot x)) None) is;
       deeds_are = refl;
     }
 
-    pub lost_whole : (x : Reply) → IsTrue (is_pin_refusal x) → AreRest (preserve_acts name token f) (slot_found name slot) (deed_at (file_no f.0) [] (FilePin []) x ∷ (added slot name token f x ++ end_with x ∷ []))
-    lost_whole x is = record {
+    lost_ends : (x : Reply) → IsTrue (is_pin_refusal x) → Ends name token f slot (pin_deeds f (Refused x) ++ after_pin slot name token f (Refused x)) x
+    lost_ends x is = record {
       outcome = preserving.NotPinned slot x;
-      sequence = lost_acts name token f slot x;
+      acts = file f [] (FilePin []) x ∷ session slot [] (SessionAdd name token f 0) x ∷ [];
       is_one = ap (λ b. cond b (Some (lost_acts name token f slot x)) None) is;
       deeds_are = refl;
     }
 
-    pub pinned_whole : (o : Order) (runs : List Pfn) → AreRest (preserve_acts name token f) (slot_found name slot) (deed_at (file_no f.0) (IsFile f Memfd o ∷ []) (FilePin []) (OkRuns runs) ∷ ((marked o runs ++ added slot name token f Ok) ++ end_with Ok ∷ []))
-    pinned_whole o [] = record { outcome = preserving.Pinned slot o [] []; sequence = pinned_acts name token f slot o []; is_one = refl; deeds_are = refl }
-    pinned_whole o (r ∷ rs) = record {
-      outcome = preserving.Pinned slot o [] (r ∷ rs);
-      sequence = pinned_acts name token f slot o (r ∷ rs);
-      is_one = refl;
+    starved_ends : (o : Order) (h : ℕ) → IsTrue (fits_file o h) → Ends name token f slot (pin_deeds f (pin.Starved o h) ++ after_pin slot name token f (pin.Starved o h)) NoFrames
+    starved_ends o h fits = record {
+      outcome = preserving.HolesStarved slot o h;
+      acts =
+          pool (IsFile f Memfd o ∷ []) (PoolTake o h) NoFrames
+          ∷ file f (IsFile f Memfd o ∷ []) (FilePin []) (NoFramesOf h) ∷ session slot [] (SessionAdd name token f 0) NoFrames ∷ [];
+      is_one = ap (λ b. cond b (Some (starved_acts name token f slot o h)) None) fits;
       deeds_are = refl;
     }
 
-    pub came_whole : (p : Preserved) → IsPreserved p → AreRest (preserve_acts name token f) (slot_found name slot) (preserve_deeds slot name token f p ++ end_with (reply_to p) ∷ [])
-    came_whole (NotAdmitted x) is = refused_whole x is
-    came_whole (NotPinned x) is = lost_whole x is
-    came_whole (Pinned o runs) is = pinned_whole o runs.value
+    pinned_deeds : (o : Order) (fills runs : List Pfn) →
+        ((map deed_of (take_holes f o fills) ++ pinned_with f o fills (OkRuns runs) ∷ []) ++ (marked o runs ++ added slot name token f Ok)) ++ end_with Ok ∷ []
+        ≡ map deed_of (take_holes f o fills ++ file f (IsFile f Memfd o ∷ []) (FilePin fills) (OkRuns runs) ∷ (unless_empty runs (pool [] (PoolMark o runs) Ok) ++ session slot [] (SessionAdd name token f 0) Ok ∷ [])) ++ end_with Ok ∷ []
+    pinned_deeds o [] [] = refl
+    pinned_deeds o [] (r ∷ rs) = refl
+    pinned_deeds o (p ∷ ps) [] = refl
+    pinned_deeds o (p ∷ ps) (r ∷ rs) = refl
 
-    -- the rest of a pin, by the reply that brought the runs
-    pub pinned_rest : (o : Order) (runs : List Pfn) (reply : Reply) → reply ≡ OkRuns runs → (ds : List Deed) → ds ≡ marked o runs ++ added slot name token f Ok → AreRest (preserve_acts name token f) (slot_found name slot) (deed_at (file_no f.0) (IsFile f Memfd o ∷ []) (FilePin []) reply ∷ (ds ++ end_with Ok ∷ []))
-    pinned_rest o runs reply is ds same =
-        subst (λ (x : Reply). AreRest (preserve_acts name token f) (slot_found name slot) (deed_at (file_no f.0) (IsFile f Memfd o ∷ []) (FilePin []) x ∷ (ds ++ end_with Ok ∷ []))) (sym is)
-        (subst (λ xs. AreRest (preserve_acts name token f) (slot_found name slot) (deed_at (file_no f.0) (IsFile f Memfd o ∷ []) (FilePin []) (OkRuns runs) ∷ (xs ++ end_with Ok ∷ []))) (sym same) (pinned_whole o runs))
+    pinned_ends : (o : Order) (fills : Snapshot (Items Pfn)) (runs : List Pfn) → IsTrue (no_or_fits o fills.value) → Ends name token f slot (pin_deeds f (Whole o fills runs) ++ after_pin slot name token f (Whole o fills runs)) Ok
+    pinned_ends o fills runs fits = record {
+      outcome = preserving.Pinned slot o fills.value runs;
+      acts =
+          take_holes f o fills.value
+          ++ file f (IsFile f Memfd o ∷ []) (FilePin fills.value) (OkRuns runs)
+          ∷ (unless_empty runs (pool [] (PoolMark o runs) Ok) ++ session slot [] (SessionAdd name token f 0) Ok ∷ []);
+      is_one = ap (λ b. cond b (Some (pinned_acts name token f slot o fills.value runs)) None) fits;
+      deeds_are = pinned_deeds o fills.value runs;
+    }
+
+    tried_ends : (p : Pin) → IsPin p → Ends name token f slot (pin_deeds f p ++ after_pin slot name token f p) (pin_reply p)
+    tried_ends (Refused x) is = lost_ends x is
+    tried_ends (pin.Starved o h) is = starved_ends o h is
+    tried_ends (Whole o fills runs) is = pinned_ends o fills runs is.0
+
+    pub came_ends : (p : Preserved) → IsPreserved p → Ends name token f slot (preserve_deeds slot name token f p) (reply_to p)
+    came_ends (NotAdmitted x) is = refused_ends x is
+    came_ends (Tried p) is = tried_ends p is
+
+    ends_whole : (ds : List Deed) (x : Reply) → Ends name token f slot ds x → AreRest (preserve_acts name token f) (slot_found name slot) (ds ++ end_with x ∷ [])
+    ends_whole ds x e = record {
+      outcome = e.outcome;
+      sequence = record { acts = registry (RegFindOut name) (OkSlot slot) ∷ e.acts; reply = x };
+      is_one = e.is_one;
+      deeds_are = ap (λ rest. slot_found name slot ++ rest) e.deeds_are;
+    }
+
+    pub came_whole : (p : Preserved) → IsPreserved p → AreRest (preserve_acts name token f) (slot_found name slot) (preserve_deeds slot name token f p ++ end_with (reply_to p) ∷ [])
+    came_whole p is = ends_whole _ _ (came_ends p is)
+
+    pub refused_whole : (x : Reply) → IsTrue (is_session_refusal x) → AreRest (preserve_acts name token f) (slot_found name slot) (added slot name token f x ++ end_with x ∷ [])
+    refused_whole x is = came_whole (NotAdmitted x) is
+
+    -- what may come after a pin, and what comes after one that came out so
+    pub pins_whole : (ds : List Deed) → ArePins f ds → (more : List Deed) × AreRest (preserve_acts name token f) (slot_found name slot) (ds ++ more)
+    pins_whole ds p = (
+      after_pin slot name token f p.outcome ++ end_with (pin_reply p.outcome) ∷ [],
+      subst (λ xs. AreRest (preserve_acts name token f) (slot_found name slot) (xs ++ (after_pin slot name token f p.outcome ++ end_with (pin_reply p.outcome) ∷ []))) (sym p.deeds_are)
+          (subst (AreRest (preserve_acts name token f) (slot_found name slot)) (append_assoc (pin_deeds f p.outcome) (after_pin slot name token f p.outcome) (end_with (pin_reply p.outcome) ∷ [])) (came_whole (Tried p.outcome) p.fits)),
+    )
+
+    pub after_whole : (p : Pin) → IsPin p → (ds : List Deed) → ds ≡ after_pin slot name token f p → AreRest (preserve_acts name token f) (slot_found name slot) (pin_deeds f p ++ (ds ++ end_with (pin_reply p) ∷ []))
+    unfolding pins_whole
+    after_whole p is ds same =
+        subst (λ xs. AreRest (preserve_acts name token f) (slot_found name slot) (pin_deeds f p ++ (xs ++ end_with (pin_reply p) ∷ []))) (sym same)
+        (pins_whole (pin_deeds f p) (record { outcome = p; fits = is; deeds_are = refl })).1
 
 -- those of the command
 module _ (labels : Labels) (name : List ℕ) (token : Token) (label : List ℕ) where
@@ -218,17 +268,56 @@ module _ (labels : Labels) (name : List ℕ) (token : Token) (label : List ℕ) 
       whole_by (preserve_acts name token f) (command_acts labels (command.Preserve name token label)) PreserveCame
       (λ x. ap (λ o. on_label o (preserved name token) (PreserveCame x)) bound)
 
--- after the pin, the marks or the add can't be made
-pub mark_sticks : (name : List ℕ) (token : Token) (f : FileNo) (slot : SlotNo) (o : Order) (runs : List Pfn) (reply : Reply) (at at1 at2 : At) (stuck : Stuck) (a a1 a2 : Agent) → reply ≡ OkRuns runs → Goes (deed_at (file_no f.0) (IsFile f Memfd o ∷ []) (FilePin []) reply ∷ []) at at1 a a1 → SticksAfter (λ ds. ds ≡ marked o runs ++ added slot name token f Ok) stuck at1 at2 a1 a2 → SticksAfter (AreRest (preserve_acts name token f) (slot_found name slot)) stuck at at2 a a2
-mark_sticks name token f slot o runs reply at at1 at2 stuck a a1 a2 is g s =
-    sticks_later {V = (λ ds. AreRest (preserve_acts name token f) (slot_found name slot) (deed_at (file_no f.0) (IsFile f Memfd o ∷ []) (FilePin []) reply ∷ ds))} {W = AreRest (preserve_acts name token f) (slot_found name slot)} (deed_at (file_no f.0) (IsFile f Memfd o ∷ []) (FilePin []) reply ∷ []) (λ rest h. h) at at1 at2 stuck a a1 a2 g
-    (sticks_before {V = λ ds. ds ≡ marked o runs ++ added slot name token f Ok} {W = (λ ds. AreRest (preserve_acts name token f) (slot_found name slot) (deed_at (file_no f.0) (IsFile f Memfd o ∷ []) (FilePin []) reply ∷ ds))} (end_with Ok ∷ []) (pinned_rest name token f slot o runs reply is) at1 at2 stuck a1 a2 s)
+-- ---- the turns after the slot was found
 
--- the file refused the pin, and the add can't be made
-pub lost_sticks : (name : List ℕ) (token : Token) (f : FileNo) (slot : SlotNo) (claims : List Claim) (lost : Reply) (at at1 at2 : At) (stuck : Stuck) (a a1 a2 : Agent) → IsTrue (is_pin_refusal lost) → Goes (deed_at (file_no f.0) claims (FilePin []) lost ∷ []) at at1 a a1 → at2 ≡ at1 → Sticks at1 (turn (session_no slot.0) (SessionAdd name token f 0)) stuck a1 a2 → SticksAfter (AreRest (preserve_acts name token f) (slot_found name slot)) stuck at at2 a a2
-lost_sticks name token f slot claims lost at at1 at2 stuck a a1 a2 is g same s =
-    sticks_next (deed_at (file_no f.0) [] (FilePin []) lost ∷ []) (added slot name token f lost ++ end_with lost ∷ []) (lost_whole name token f slot lost is)
-    at at1 at2 stuck a a1 a2 (unread _ claims _ lost at at1 a a1 g) same s
+-- a pin can't be made
+pub pin_stops : (name : List ℕ) (token : Token) (f : FileNo) (slot : SlotNo) (at at1 : At) (stuck : Stuck) (a a1 : Agent) → SticksAfter (ArePins f) stuck at at1 a a1 → SticksAfter (AreRest (preserve_acts name token f) (slot_found name slot)) stuck at at1 a a1
+pin_stops name token f slot at at1 stuck a a1 s =
+    sticks_front {V = ArePins f} {W = AreRest (preserve_acts name token f) (slot_found name slot)} (pins_whole name token f slot) at at1 stuck a a1 s
+
+-- what follows a pin can't be done
+pub after_stops : (name : List ℕ) (token : Token) (f : FileNo) (slot : SlotNo) (p : Pin) (at at1 at2 : At) (stuck : Stuck) (a a1 a2 : Agent) → IsPin p → Goes (pin_deeds f p) at at1 a a1 → SticksAfter (λ ds. ds ≡ after_pin slot name token f p) stuck at1 at2 a1 a2 → SticksAfter (AreRest (preserve_acts name token f) (slot_found name slot)) stuck at at2 a a2
+after_stops name token f slot p at at1 at2 stuck a a1 a2 is g s =
+    sticks_later {V = λ ds. AreRest (preserve_acts name token f) (slot_found name slot) (pin_deeds f p ++ ds)} {W = AreRest (preserve_acts name token f) (slot_found name slot)} (pin_deeds f p) (λ rest h. h) at at1 at2 stuck a a1 a2 g
+    (sticks_before {V = λ ds. ds ≡ after_pin slot name token f p} {W = λ ds. AreRest (preserve_acts name token f) (slot_found name slot) (pin_deeds f p ++ ds)} (end_with (pin_reply p) ∷ []) (after_whole name token f slot p is) at1 at2 stuck a1 a2 s)
+
+pub tried_goes : (name : List ℕ) (token : Token) (f : FileNo) (slot : SlotNo) (p q : Pin) (at at1 at2 : At) (a a1 a2 : Agent) → q ≡ p → Goes (pin_deeds f p) at at1 a a1 → Goes (after_pin slot name token f p) at1 at2 a1 a2 → Goes (preserve_deeds slot name token f (Tried q)) at at2 a a2
+tried_goes name token f slot p q at at1 at2 a a1 a2 same h k =
+    subst (λ (x : Pin). Goes (preserve_deeds slot name token f (Tried x)) at at2 a a2) (sym same) (then_goes _ _ at at1 at2 a a1 a2 h k)
+
+-- the last reply
+pub is_end : (p : Preserved) → IsPreserved p → IsEnd (reply_to p)
+is_end (NotAdmitted x) is = refused_end x is
+  where
+    refused_end : (x : Reply) → IsTrue (is_session_refusal x) → IsEnd x
+    refused_end NoSession is = tt
+    refused_end SessionFull is = tt
+    refused_end TokenTaken is = tt
+    refused_end x is = absurd cc
+is_end (Tried p) is = tried_end p is
+  where
+    lost_end : (x : Reply) → IsTrue (is_pin_refusal x) → IsEnd x
+    lost_end NotFinished is = tt
+    lost_end AlreadyPinned is = tt
+    lost_end x is = absurd cc
+
+    tried_end : (p : Pin) → IsPin p → IsEnd (pin_reply p)
+    tried_end (Refused x) is = lost_end x is
+    tried_end (pin.Starved o h) is = tt
+    tried_end (Whole o fills runs) is = tt
+
+pub came_slot : (name : List ℕ) (token : Token) (f : FileNo) (slot : SlotNo) (p : Preserved) (x y : Reply) (at at1 at2 : At) (a a1 a2 : Agent) → x ≡ reply_to p → y ≡ x → IsPreserved p → Goes (preserve_deeds slot name token f p) at at1 a a1 → Goes (end_with x ∷ []) at1 at2 a1 a2 → PreservesSlot name token f slot y at at2 a a2
+came_slot name token f slot p x y at at1 at2 a a1 a2 is told fits h k =
+    subst (λ (z : Reply). PreservesSlot name token f slot z at at2 a a2) (sym (told ∙ is))
+    (let e : Ends name token f slot (preserve_deeds slot name token f p) (reply_to p) = came_ends name token f slot p fits in
+    record {
+      outcome = e.outcome;
+      acts = e.acts;
+      is_one = e.is_one;
+      goes = subst (λ ds. Goes ds at at2 a a2) e.deeds_are (then_goes _ _ at at1 at2 a a1 a2 h (subst (λ (z : Reply). Goes (end_with z ∷ []) at1 at2 a1 a2) is k));
+    })
+
+-- ---- the whole command
 
 module _ (labels : Labels) (name : List ℕ) (token : Token) (label : List ℕ) (at at1 : At) (a a1 : Agent) where
   -- no file has the label
@@ -257,58 +346,23 @@ module _ (labels : Labels) (name : List ℕ) (token : Token) (label : List ℕ) 
       labels_are = refl;
     }
 
-    module _ (slot : SlotNo) (at3 : At) (a3 : Agent) (found : Goes (deed_at registry_no [] (RegFindOut name) (OkSlot slot) ∷ []) at at1 a a1) where
-      refused : (x : Reply) → IsTrue (is_session_refusal x) → Goes (added slot name token f x) at1 at2 a1 a2 → Goes (end_with x ∷ []) at2 at3 a2 a3 → Comes labels labels (command.Preserve name token label) x at at3 a a3
-      refused x is h k = record {
-        outcome = PreserveCame (preserving.NotAdmitted slot x);
-        sequence = refused_acts name token f slot x;
-        is_one = acts_of (PreserveCame (preserving.NotAdmitted slot x)) ∙ ap (λ b. cond b (Some (refused_acts name token f slot x)) None) is;
-        reply_is = refl;
-        goes = then_goes _ _ at at2 at3 a a2 a3 (then_goes _ _ at at1 at2 a a1 a2 found h) k;
-        labels_are = stay labels (is_ok x);
-      }
+    -- the slot was found, and the command ended
+    came_in : (slot : SlotNo) (reply : Reply) → Goes (slot_found name slot) at at1 a a1 → PreservesSlot name token f slot reply at1 at2 a1 a2 → Comes labels labels (command.Preserve name token label) reply at at2 a a2
+    came_in slot reply found h = record {
+      outcome = PreserveCame h.outcome;
+      sequence = record { acts = registry (RegFindOut name) (OkSlot slot) ∷ h.acts; reply = reply };
+      is_one = acts_of (PreserveCame h.outcome) ∙ h.is_one;
+      reply_is = refl;
+      goes = then_goes _ _ at at1 at2 a a1 a2 found h.goes;
+      labels_are = stay labels (is_ok reply);
+    }
 
-      lost : (x : Reply) → IsTrue (is_pin_refusal x) → Goes (deed_at (file_no f.0) [] (FilePin []) x ∷ added slot name token f x) at1 at2 a1 a2 → Goes (end_with x ∷ []) at2 at3 a2 a3 → Comes labels labels (command.Preserve name token label) x at at3 a a3
-      lost x is h k = record {
-        outcome = PreserveCame (preserving.NotPinned slot x);
-        sequence = lost_acts name token f slot x;
-        is_one = acts_of (PreserveCame (preserving.NotPinned slot x)) ∙ ap (λ b. cond b (Some (lost_acts name token f slot x)) None) is;
-        reply_is = refl;
-        goes = then_goes _ _ at at2 at3 a a2 a3 (then_goes _ _ at at1 at2 a a1 a2 found h) k;
-        labels_are = stay labels (is_ok x);
-      }
+    pub came_if : (slot : SlotNo) (r : Result Reply Stopped) → Goes (slot_found name slot) at at1 a a1 → IfOk r (λ reply. PreservesSlot name token f slot reply at1 at2 a1 a2) → IfOk r (λ reply. Comes labels labels (command.Preserve name token label) reply at at2 a a2)
+    came_if slot (result.Ok reply) found h = came_in slot reply found h
+    came_if slot (result.Err x) found h = tt
 
-      pinned : (o : Order) (runs : List Pfn) → Goes (deed_at (file_no f.0) (IsFile f Memfd o ∷ []) (FilePin []) (OkRuns runs) ∷ (marked o runs ++ added slot name token f Ok)) at1 at2 a1 a2 → Goes (end_with Ok ∷ []) at2 at3 a2 a3 → Comes labels labels (command.Preserve name token label) Ok at at3 a a3
-      pinned o [] h k = record {
-        outcome = PreserveCame (preserving.Pinned slot o [] []);
-        sequence = pinned_acts name token f slot o [];
-        is_one = acts_of (PreserveCame (preserving.Pinned slot o [] []));
-        reply_is = refl;
-        goes = then_goes _ _ at at2 at3 a a2 a3 (then_goes _ _ at at1 at2 a a1 a2 found h) k;
-        labels_are = refl;
-      }
-      pinned o (r ∷ rs) h k = record {
-        outcome = PreserveCame (preserving.Pinned slot o [] (r ∷ rs));
-        sequence = pinned_acts name token f slot o (r ∷ rs);
-        is_one = acts_of (PreserveCame (preserving.Pinned slot o [] (r ∷ rs)));
-        reply_is = refl;
-        goes = then_goes _ _ at at2 at3 a a2 a3 (then_goes _ _ at at1 at2 a a1 a2 found h) k;
-        labels_are = refl;
-      }
-
-      came : (p : Preserved) → IsPreserved p → Goes (preserve_deeds slot name token f p) at1 at2 a1 a2 → Goes (end_with (reply_to p) ∷ []) at2 at3 a2 a3 → Comes labels labels (command.Preserve name token label) (reply_to p) at at3 a a3
-      came (NotAdmitted x) is h k = refused x is h k
-      came (NotPinned x) is h k = lost x is h k
-      came (Pinned o runs) is h k = pinned o runs.value h k
-
-      -- the session was taken, its turn ended, and the command ended with the reply
-      pub came_told : (p : Preserved) (x : Reply) (r : Result Reply Stuck) → x ≡ reply_to p → IsPreserved p → Goes (preserve_deeds slot name token f p) at1 at2 a1 a2 → IfOk r (λ told. told ≡ x) → OnOk r (Goes (end_with x ∷ []) at2 at3 a2 a3) → IfOk r (λ reply. Comes labels labels (command.Preserve name token label) reply at at3 a a3)
-      came_told p x (result.Ok y) is fits h told k =
-          subst (λ (z : Reply). Comes labels labels (command.Preserve name token label) z at at3 a a3) (sym (told ∙ is))
-          (came p fits h (subst (λ (z : Reply). Goes (end_with z ∷ []) at2 at3 a2 a3) is k))
-      came_told p x (result.Err stuck) is fits h told k = tt
-
--- the command can't be ended
-pub told_sticks : (W : List Deed → Type 0) (ds due : List Deed) → W (ds ++ due) → (at at1 at2 : At) (a a1 a2 : Agent) (r : Result Reply Stuck) → Goes ds at at1 a a1 → OnErr r (at2 ≡ at1) → IfErr r (λ stuck. Sticks at1 (turn_of due) stuck a1 a2) → IfErr r (λ stuck. SticksAfter W stuck at at2 a a2)
-told_sticks W ds due front at at1 at2 a a1 a2 (result.Ok x) h same s = tt
-told_sticks W ds due front at at1 at2 a a1 a2 (result.Err stuck) h same s = sticks_next ds due front at at1 at2 stuck a a1 a2 h same s
+    pub stops_if : (slot : SlotNo) (r : Result Reply Stopped) → Goes (slot_found name slot) at at1 a a1 → IfErr r (λ x. SticksAfter (AreRest (preserve_acts name token f) (slot_found name slot)) x.stuck at1 at2 a1 a2) → IfErr r (λ x. SticksAfter (AreWhole (command_acts labels (command.Preserve name token label))) x.stuck at at2 a a2)
+    stops_if slot (result.Ok reply) found h = tt
+    stops_if slot (result.Err x) found h =
+        sticks_later {V = AreRest (preserve_acts name token f) (slot_found name slot)} {W = AreWhole (command_acts labels (command.Preserve name token label))} (slot_found name slot)
+        (λ rest. of_file labels name token label f bound (slot_found name slot ++ rest)) at at1 at2 x.stuck a a1 a2 found h

@@ -5,8 +5,12 @@ pub mod Doing
 pub mod Done
 pub mod Memfds
 pub mod Opened
+pub mod Pins
 pub mod Preserved
+pub mod Puts
+pub mod Queries
 pub mod Replies
 pub mod Stuck
 pub mod Takes
+pub mod Truncates
 pub mod Wrote

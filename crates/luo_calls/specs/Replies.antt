@@ -1,12 +1,12 @@
 -- The replies that come to some events.
 use Rattle.std.specs.Prelude.{◌≡◌, ◌<◌, List, []}
+use Rattle.std.specs.List.{All}
+use Rattle.ho_base.specs.declared.numbers.Order.{Order}
 use Rattle.ho_base.specs.declared.limits.TheConstants.{FILES, OUT_SLOTS}
 use Rattle.ho_events.specs.declared.reply.Reply.{Reply}
-use Rattle.ho_events.specs.declared.reply.Reply.TheVariants.{OkFile, OkSlot, OkRuns, Kept, KeptRuns, Gone, FilesFull, NameTaken, SessionsFull, NoSession, NotFinished, AlreadyPinned}
+use Rattle.ho_events.specs.declared.reply.Reply.TheVariants.{OkFile, OkSlot, Kept, KeptRuns, Gone, FilesFull, NameTaken, SessionsFull, NoSession}
 use Rattle.phys_frames.specs.Homes.{HomeId}
-use Rattle.phys_frames.specs.Memory.{FolioValue}
-use Rattle.phys_frames.specs.Memory.{AreOf}
-use Rattle.phys_frames.specs.Memory.{first_frames}
+use Rattle.phys_frames.specs.Memory.{AreOf, FolioValue, first_frames}
 
 -- a file number, or that all are in use
 abbrev pub IsFileReply : Reply → Type 0
@@ -27,13 +27,6 @@ IsFindReply (OkSlot s) = s.0 < OUT_SLOTS
 IsFindReply NoSession = Unit {0}
 IsFindReply reply = ⊥
 
--- that an incoming or an outgoing session has the file, or all its runs
-abbrev pub IsPinReply : Reply → Type 0
-IsPinReply NotFinished = Unit {0}
-IsPinReply AlreadyPinned = Unit {0}
-IsPinReply (OkRuns runs) = Unit {0}
-IsPinReply reply = ⊥
-
 -- all runs of a file that something still holds, or of one that is gone
 abbrev pub IsUnpinReply : Reply → Type 0
 IsUnpinReply (KeptRuns runs) = Unit {0}
@@ -46,10 +39,10 @@ IsCloseFdReply Kept = Unit {0}
 IsCloseFdReply (Gone runs) = Unit {0}
 IsCloseFdReply reply = ⊥
 
--- the folios that a file gives up when a label's hold or a pin ends: none where it is kept, and those of its runs where
--- it is gone
-abbrev pub IsGivenUp : HomeId → Reply → List FolioValue → Type 0
-IsGivenUp home Kept folios = folios ≡ []
-IsGivenUp home (KeptRuns runs) folios = folios ≡ []
-IsGivenUp home (Gone runs) folios = (first_frames folios ≡ runs) × AreOf home folios
-IsGivenUp home reply folios = ⊥
+-- the folios that a file of this order gives up when a label's hold or a pin ends: none where it is kept, and those of
+-- its runs where it is gone
+abbrev pub IsGivenUp : HomeId → Order → Reply → List FolioValue → Type 0
+IsGivenUp home order Kept folios = folios ≡ []
+IsGivenUp home order (KeptRuns runs) folios = folios ≡ []
+IsGivenUp home order (Gone runs) folios = (first_frames folios ≡ runs) × AreOf home folios × All (λ f. f.order ≡ order) folios
+IsGivenUp home order reply folios = ⊥

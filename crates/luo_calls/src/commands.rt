@@ -7,5 +7,6 @@ pub mod command;
 pub mod create;
 pub mod memfd;
 pub mod preserve;
-pub mod read;
+pub mod query;
+pub mod truncate;
 pub mod write;

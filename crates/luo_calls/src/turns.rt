@@ -2,10 +2,14 @@
 
 pub mod done;
 pub mod file;
+pub mod memfd;
 pub mod open;
+pub mod pin;
 pub mod pool;
-pub mod read;
+pub mod put;
+pub mod query;
 pub mod registry;
 pub mod resume;
 pub mod session;
+pub mod truncate;
 pub mod write;

@@ -1,37 +1,49 @@
 -- What a file that an incoming session has can do, what it answers, and which folios it gives up.
-use Rattle.std.proofs.Common.{◌≡◌, ℕ, Bool, true, false, not, ◌&&◌, List, [], ◌∷◌, ◌++◌, map, refl, sym, ap, subst, ◌∙◌}
-use Rattle.std.specs.Prelude.{Option, None, Some, MatchOption, option_map}
+use Rattle.std.proofs.Common.{◌≡◌, ℕ, ◌≤◌, Bool, true, false, not, ◌&&◌, List, [], ◌∷◌, ◌++◌, refl, sym, ap, subst, ◌∙◌}
+use Rattle.std.specs.Prelude as result
+use Rattle.std.specs.Prelude.{Option, None, Some, MatchOption, option_map, unwrap_or, Result, IfOk, IfErr}
+use Rattle.std.specs.FinMap as finmap
+use Rattle.ho_base.specs.declared.limits.TheConstants.{MAX_ORDER}
+use Rattle.ho_base.specs.Objects.{file_no}
+use Rattle.ho_base.specs.declared.numbers.FileNo.{FileNo}
+use Rattle.ho_base.specs.declared.numbers.Kind.TheVariants.{Memfd}
 use Rattle.ho_base.specs.declared.numbers.Order.{Order}
-use Rattle.ho_base.specs.declared.numbers.Pfn.{Pfn}
 use Rattle.ho_events.specs.declared.event.Event.TheVariants.{FileOpenHeld, FileFinish}
 use Rattle.ho_events.specs.declared.reply.Reply.{Reply}
 use Rattle.ho_events.specs.declared.reply.Reply.TheVariants.{Ok, Kept, Gone}
+use Rattle.ho_events.specs.declared.slip.At.{At}
 use Rattle.ho_events.specs.File.{FileState, file_step}
+use Rattle.ho_world.specs.Acts.{IsFile}
+use Rattle.ho_world.specs.Logs.{Deed, deed_at}
 use Rattle.phys_frames.specs.Homes.{HomeId}
-use Rattle.phys_frames.specs.Memory.{FolioValue, AreOf, first_frames}
-use Rattle.memfd_file.specs.Files.{IsFinishAnswer, IsOnePage, facts_of, folio_of, given_up}
-use Rattle.memfd_file.specs.declared.facts.Facts.{Facts}
+use Rattle.phys_frames.specs.Memory.{FolioValue}
+use Rattle.file_folios.specs.FileAnswers.{facts_of}
+use Rattle.file_folios.specs.declared.facts.Facts.{Facts}
+use Rattle.memfd_file.specs.Files.{IsFinishAnswer, IsMemfdFile, given_up}
+use Rattle.machine_core.specs.declared.object.Object.{Object}
+use Rattle.machine_core.specs.Agents.{Agent}
+use Rattle.machine_core.specs.Turns.{Goes}
 use Rattle.luo_calls.specs.Memfds.{IsMemfd}
 use Rattle.luo_calls.specs.Replies.{IsGivenUp}
-use Rattle.luo_incoming.specs.Incoming.{IsPlainMemfd, is_held, waits_for_label}
+use Rattle.luo_calls.specs.Opened.{Opens, without}
+use Rattle.luo_calls.specs.Stuck.{Sticks, Turn}
+use Rattle.luo_calls.specs.declared.stuck.Stuck.{Stuck}
+use Rattle.luo_calls.proofs.Nested.{outer_goes, outer_stuck}
+use Rattle.luo_calls.proofs.Folios.{at_runs_begin, at_runs_home, at_runs_order}
+use Rattle.luo_incoming.specs.Incoming.{is_held, waits_for_label}
 use Rattle.luo_incoming.specs.Replies.{IsFinishReply}
 
 -- ---- what every file is
 
-page_at : (s : Option FileState) (p : Option Pfn) (o : Order) → o.0 ≡ 0 → MatchOption s (p ≡ None) (IsOnePage p) → IsPlainMemfd o s
-page_at None p o zero h = tt
-page_at (Some f) None o zero h = (h.0, h.1 ∙ sym zero)
-page_at (Some f) (Some p) o zero h = (h.0, h.1 ∙ sym zero)
-
-pub page_plain : (x : Option (Option FileState)) (p : Option Pfn) (o : Order) → o.0 ≡ 0 → MatchOption x ⊥ (λ s. MatchOption s (p ≡ None) (IsOnePage p)) → MatchOption x ⊥ (IsPlainMemfd o)
-page_plain None p o zero h = absurd h
-page_plain (Some s) p o zero h = page_at s p o zero h
+order_at : (s : Option FileState) (told : Facts) → Some told ≡ option_map facts_of s → MatchOption s (Unit {0}) IsMemfdFile → IsMemfd (option_map facts_of s) told.order
+order_at None told e m = absurd cc
+order_at (Some f) told e m = let is : told.order.0 ≡ f.order = ap (λ (x : Option Facts). unwrap_or (option_map (λ t. t.order.0) x) 0) e in
+    (m.kind, (λ i. record { 0 = sym is i }), subst (λ n. n ≤ MAX_ORDER) (sym is) m.order)
 
 -- one that is there is a memfd, by what is told of it
-pub told_memfd : (P : FileState → Type 0) (x : Option (Option FileState)) (o : Order) → o.0 ≡ 0 → MatchOption x ⊥ (IsPlainMemfd o) → MatchOption x ⊥ (λ s. MatchOption s ⊥ P) → MatchOption x ⊥ (λ s. IsMemfd (option_map facts_of s) o)
-told_memfd P None o zero plain there = absurd there
-told_memfd P (Some None) o zero plain there = absurd there
-told_memfd P (Some (Some f)) o zero plain there = (plain.0, (λ i. record { 0 = plain.1 i }), zero)
+pub order_told : (x : Option (Option FileState)) (facts : Option Facts) (told : Facts) → facts ≡ Some told → MatchOption x ⊥ (λ s. facts ≡ option_map facts_of s) → MatchOption x ⊥ (λ s. MatchOption s (Unit {0}) IsMemfdFile) → MatchOption x ⊥ (λ s. IsMemfd (option_map facts_of s) told.order)
+order_told None facts told e h m = absurd h
+order_told (Some s) facts told e h m = order_at s told (sym e ∙ h) m
 
 -- ---- what it can't do
 
@@ -89,22 +101,30 @@ finish_replied None v h = absurd h
 finish_replied (Some None) v h = absurd h
 finish_replied (Some (Some f)) v h = finish_is f v h
 
-runs_back : (home : HomeId) → (bytes : List ℕ) → (runs : List Pfn) → first_frames (map (λ r. folio_of home bytes r.0) runs) ≡ runs
-runs_back home bytes [] = refl
-runs_back home bytes (r ∷ runs) = ap (λ more. r ∷ more) (runs_back home bytes runs)
+given_is : (home : HomeId) → (f : FileState) → (o : Order) → (v : Reply) → f.order ≡ o.0 → IsFinishAnswer f v → IsGivenUp home o v (given_up home f v)
+given_is home f o Kept is h = refl
+given_is home f o (Gone runs) is h = let es = finmap.entries f.runs in
+    (at_runs_begin f home es runs h.1, at_runs_home f home es, at_runs_order f home o es is)
+given_is home f o v is h = absurd h
 
-of_home : (home : HomeId) → (bytes : List ℕ) → (runs : List Pfn) → AreOf home (map (λ r. folio_of home bytes r.0) runs)
-of_home home bytes [] = tt
-of_home home bytes (r ∷ runs) = (refl, of_home home bytes runs)
+pub finished_says : (s : Option (Option FileState)) → (home own : HomeId) → (o : Order) → (v : Reply) → (old new : List FolioValue) → own ≡ home → old ≡ [] → MatchOption s ⊥ (λ t. IsMemfd (option_map facts_of t) o) → MatchOption s ⊥ (λ t. MatchOption t ⊥ (λ f. IsFinishAnswer f v)) → MatchOption s ⊥ (λ t. MatchOption t ⊥ (λ f. new ≡ old ++ given_up own f v)) → IsGivenUp home o v new
+finished_says None home own o v old new same empty m h g = absurd h
+finished_says (Some None) home own o v old new same empty m h g = absurd h
+finished_says (Some (Some f)) home own o v old new same empty m h g =
+    subst (λ (place : HomeId). IsGivenUp place o v new) same
+    (subst (IsGivenUp own o v) (sym (g ∙ ap (λ front. front ++ given_up own f v) empty)) (given_is own f o v (ap (λ (x : Order). x.0) m.1) h))
 
-given_is : (home : HomeId) → (f : FileState) → (v : Reply) → IsFinishAnswer f v → IsGivenUp home v (given_up home f v)
-given_is home f Kept h = refl
-given_is home f (Gone runs) h = (runs_back home f.bytes runs, of_home home f.bytes runs)
-given_is home f v h = absurd h
+-- ---- the end of a hold on the file in hand, seen from before it was taken
 
-pub finished_says : (s : Option (Option FileState)) → (home own : HomeId) → (v : Reply) → (old new : List FolioValue) → own ≡ home → old ≡ [] → MatchOption s ⊥ (λ t. MatchOption t ⊥ (λ f. IsFinishAnswer f v)) → MatchOption s ⊥ (λ t. MatchOption t ⊥ (λ f. new ≡ old ++ given_up own f v)) → IsGivenUp home v new
-finished_says None home own v old new same empty h g = absurd h
-finished_says (Some None) home own v old new same empty h g = absurd h
-finished_says (Some (Some f)) home own v old new same empty h g =
-    subst (λ (place : HomeId). IsGivenUp place v new) same
-    (subst (IsGivenUp own v) (sym (g ∙ ap (λ front. front ++ given_up own f v) empty)) (given_is own f v h))
+abbrev finished_as : FileNo → Order × Reply → List Deed
+finished_as file r = deed_at (file_no file.0) (IsFile file Memfd r.0 ∷ []) FileFinish r.1 ∷ []
+
+module _ (file : FileNo) (at at1 : At) (a a1 a2 : Agent) (o : Object) (opens : Opens at (file_no file.0) a a1 o) (free : a.hands (file_no file.0) ≡ None) where
+  pub outer_goes_if : (r : Result (Order × Reply) Stuck) → IfOk r (λ x. Goes (finished_as file x) at at1 (without (file_no file.0) a1) a2) → IfOk r (λ x. Goes (finished_as file x) at at1 a a2)
+  outer_goes_if (result.Ok x) g = outer_goes (finished_as file x) at at1 (file_no file.0) a a1 a2 o opens free g
+  outer_goes_if (result.Err stuck) g = tt
+
+module _ (at : At) (n : ℕ) (a a1 a2 : Agent) (o : Object) (opens : Opens at n a a1 o) (free : a.hands n ≡ None) (due : Option Turn) where
+  pub outer_sticks_if : (r : Result (Order × Reply) Stuck) → IfErr r (λ stuck. Sticks at due stuck (without n a1) a2) → IfErr r (λ stuck. Sticks at due stuck a a2)
+  outer_sticks_if (result.Ok x) s = tt
+  outer_sticks_if (result.Err stuck) s = outer_stuck due at stuck n a a1 a2 o opens free s

@@ -1,12 +1,12 @@
 -- How a kernel's frames come home, with what they hold.
-use Rattle.std.proofs.Common.{◌≡◌, ℕ, ◌<◌, Bool, true, false, List, [], ◌∷◌, length, refl, sym, ap, subst, ◌∙◌, arith, zero, suc, inl, inr, slice_index_or, slice_set, get_or-set_other}
+use Rattle.std.proofs.Common.{◌≡◌, ℕ, ◌+◌, ◌-◌, ◌*◌, ◌<◌, take, drop, Bool, true, false, List, [], ◌∷◌, length, refl, sym, ap, subst, ◌∙◌, arith, zero, suc, inl, inr, slice_index_or, slice_set, get_or-set_other}
 use Rattle.std.specs.Prelude.{Option, None, Some, IsSome, MatchOption, option_map, unwrap_or}
 use Rattle.std.specs.List.{All}
-use Rattle.std.specs.FinMap as finmap
 use Rattle.std.proofs.lemmas.Bool.Decides.{eqb_tells}
 use Rattle.std.proofs.lemmas.List.{get_or_default}
 use Rattle.std.proofs.lemmas.Option.{same_Some}
 use Rattle.ho_base.specs.Objects.{pool_no}
+use Rattle.ho_base.specs.declared.limits.TheConstants.{PAGE_BYTES}
 use Rattle.ho_base.specs.declared.numbers.Pfn.{Pfn}
 use Rattle.ho_events.specs.File.{FileState}
 use Rattle.ho_events.specs.History.{pool_from, registry_from, session_from, file_from}
@@ -16,17 +16,19 @@ use Rattle.ho_events.specs.Session.{SessionState}
 use Rattle.ho_world.specs.World.{PoolIn, RegistryIn, SessionIn, FileIn}
 use Rattle.ho_world.proofs.Grow.{file_run, pool_run, registry_run, session_run}
 use Rattle.memfd_file.specs.FileValues.{FileValue, FileIs}
-use Rattle.memfd_file.specs.Files.{PageIsOut, page_of, run_at, with_file_home, with_page_home}
+use Rattle.file_folios.specs.FileAnswers.{folios_of}
+use Rattle.memfd_file.specs.Files.{FileIsOut, with_file_home}
+use Rattle.phys_frames.specs.Homes.{HomeId}
 use Rattle.phys_frames.specs.Memory.{Memory, FolioValue, AllHome, IsHome, page_at}
 use Rattle.pool_core.specs.PoolValues.{PoolValue, PoolIs}
 use Rattle.registry_core.specs.RegistryValues.{RegistryValue}
 use Rattle.session_core.specs.SessionValues.{SessionValue}
 use Rattle.machine_core.specs.declared.object.Object.{Object}
 use Rattle.machine_core.specs.declared.object.Object.TheVariants as kind_of
-use Rattle.machine_core.specs.Gathered.{HasMore, HoldsFile, HoldsFiles, BeginsAt, IsPageOfFile, IsAccounted}
+use Rattle.machine_core.specs.Gathered.{HasMore, HoldsFile, HoldsFiles, HoldsRun, BeginsAt, IsFrameOfFile, IsAccounted, piece_of}
 use Rattle.machine_core.specs.Kernels.{object_at}
 use Rattle.machine_core.specs.Worlds.{state_of, states_in}
-use Rattle.machine_core.proofs.MoreHome.{Each, same_more, more_still, page_more, page_there}
+use Rattle.machine_core.proofs.MoreHome.{Each, file_runs, folios_more, more_still, run_stays, same_more}
 
 -- what each object and each folio that came home keep of the frames
 abbrev pub Held : Option Object → Memory → Type 0
@@ -36,7 +38,7 @@ abbrev pub PageHome : FolioValue → Memory → Type 0
 PageHome g m = g.order.0 ≡ 0 → page_at m g.first ≡ Some g.bytes
 
 pub file_stays : (x : Option Object) (a b : Memory) → HasMore a b → Held x a → Held x b
-file_stays x a b more h = λ f p is at. more.kept (record { 0 = p }) (page_of f.bytes) (h f p is at)
+file_stays x a b more h = λ f i first is at. run_stays f.order first (piece_of f i) a b more (h f i first is at)
 
 pub folio_stays : (g : FolioValue) (a b : Memory) → HasMore a b → PageHome g a → PageHome g b
 folio_stays g a b more h = λ single. more.kept g.first g.bytes (h single)
@@ -51,13 +53,13 @@ no_session None s f e = cc
 no_session (Some r) s f e = cc
 
 pub registry_holds : (m : Memory) (r : RegistryValue) → Held (Some (kind_of.Registry r)) m
-registry_holds m r = λ f p is at. absurd (no_registry (registry_from r.start r.history) r.start (Some f) (sym (ap (λ o. unwrap_or o (RegistryIn r.start)) (registry_run r.start r.history)) ∙ same_Some _ _ is))
+registry_holds m r = λ f i first is at. absurd (no_registry (registry_from r.start r.history) r.start (Some f) (sym (ap (λ o. unwrap_or o (RegistryIn r.start)) (registry_run r.start r.history)) ∙ same_Some _ _ is))
 
 pub session_holds : (m : Memory) (s : SessionValue) → Held (Some (kind_of.Session s)) m
-session_holds m s = λ f p is at. absurd (no_session (session_from s.start s.history) s.start (Some f) (sym (ap (λ o. unwrap_or o (SessionIn s.start)) (session_run s.start s.history)) ∙ same_Some _ _ is))
+session_holds m s = λ f i first is at. absurd (no_session (session_from s.start s.history) s.start (Some f) (sym (ap (λ o. unwrap_or o (SessionIn s.start)) (session_run s.start s.history)) ∙ same_Some _ _ is))
 
 pub nothing_holds : (m : Memory) → Held None m
-nothing_holds m = λ f p is at. absurd cc
+nothing_holds m = λ f i first is at. absurd cc
 
 file_state : (v : FileValue) (s : Option FileState) → file_from v.start v.history ≡ Some s → state_of (kind_of.File v) ≡ FileIn s
 file_state v s e = ap (λ o. unwrap_or o (FileIn v.start)) (file_run v.start v.history ∙ ap (option_map FileIn) e)
@@ -65,35 +67,30 @@ file_state v s e = ap (λ o. unwrap_or o (FileIn v.start)) (file_run v.start v.h
 pool_state : (v : PoolValue) (s : PoolState) → pool_from v.start v.history ≡ Some s → state_of (kind_of.Pool v) ≡ PoolIn s
 pool_state v s e = ap (λ o. unwrap_or o (PoolIn v.start)) (pool_run v.start v.history ∙ ap (option_map PoolIn) e)
 
--- a file's page comes home
+-- a file's runs come home
 file_in : (a b : Option FileState) → FileIn a ≡ FileIn b → a ≡ b
 file_in a b e = cc
 
-more_by : (old : Memory) (s : Option FileState) → PageIsOut old (run_at s 0) → HasMore old (with_file_home old s)
-more_by old None out = same_more old
-more_by old (Some f) out = page_more old (finmap.get f.runs 0) (page_of f.bytes) out
+more_by : (old : Memory) (home : HomeId) (s : Option FileState) → FileIsOut old home s → HasMore old (with_file_home old home s)
+more_by old home None out = same_more old
+more_by old home (Some f) out = folios_more old (folios_of f home) out
 
-page_by : (old : Memory) (f : FileState) (p : ℕ) → PageIsOut old (finmap.get f.runs 0) → finmap.get f.runs 0 ≡ Some p → page_at (with_file_home old (Some f)) (record { 0 = p }) ≡ Some (page_of f.bytes)
-page_by old f p out at =
-    ap (λ q. page_at (with_page_home old q (page_of f.bytes)) (record { 0 = p })) at
-    ∙ page_there old p (page_of f.bytes) (subst (PageIsOut old) at out)
+more_at : (home : HomeId) (o : Option (Option FileState)) (old new : Memory) → MatchOption o ⊥ (λ s. new ≡ with_file_home old home s) → MatchOption o ⊥ (λ s. FileIsOut old home s) → HasMore old new
+more_at home None old new came out = absurd came
+more_at home (Some s) old new came out = subst (HasMore old) (sym came) (more_by old home s out)
 
-more_at : (o : Option (Option FileState)) (old new : Memory) → MatchOption o ⊥ (λ s. new ≡ with_file_home old s) → MatchOption o ⊥ (λ s. PageIsOut old (run_at s 0)) → HasMore old new
-more_at None old new home out = absurd home
-more_at (Some s) old new home out = subst (HasMore old) (sym home) (more_by old s out)
-
-held_at : (v : FileValue) (o : Option (Option FileState)) (old new : Memory) → file_from v.start v.history ≡ o → MatchOption o ⊥ (λ s. new ≡ with_file_home old s) → MatchOption o ⊥ (λ s. PageIsOut old (run_at s 0)) → Held (Some (kind_of.File v)) new
-held_at v None old new is home out = absurd home
-held_at v (Some s) old new is home out = λ f p same at.
+held_at : (v : FileValue) (o : Option (Option FileState)) (old new : Memory) → file_from v.start v.history ≡ o → MatchOption o ⊥ (λ s. new ≡ with_file_home old v.home s) → MatchOption o ⊥ (λ s. FileIsOut old v.home s) → Held (Some (kind_of.File v)) new
+held_at v None old new is came out = absurd came
+held_at v (Some s) old new is came out = λ f i first same at.
     let file : s ≡ Some f = file_in s (Some f) (sym (file_state v s is) ∙ same_Some _ _ same) in
-    ap (λ m. page_at m (record { 0 = p })) (home ∙ ap (with_file_home old) file)
-    ∙ page_by old f p (subst (λ t. PageIsOut old (run_at t 0)) file out) at
+    subst (λ m. HoldsRun m f.order first (piece_of f i)) (sym (came ∙ ap (with_file_home old v.home) file))
+    (file_runs old f v.home i first (subst (FileIsOut old v.home) file out) at)
 
-pub file_more : (v : FileValue) (old new : Memory) → FileIs v (λ s. new ≡ with_file_home old s) → FileIs v (λ s. PageIsOut old (run_at s 0)) → HasMore old new
-file_more v old new home out = more_at (file_from v.start v.history) old new home out
+pub file_more : (v : FileValue) (old new : Memory) → FileIs v (λ s. new ≡ with_file_home old v.home s) → FileIs v (λ s. FileIsOut old v.home s) → HasMore old new
+file_more v old new came out = more_at v.home (file_from v.start v.history) old new came out
 
-pub file_holds : (v : FileValue) (old new : Memory) → FileIs v (λ s. new ≡ with_file_home old s) → FileIs v (λ s. PageIsOut old (run_at s 0)) → Held (Some (kind_of.File v)) new
-file_holds v old new home out = held_at v (file_from v.start v.history) old new refl home out
+pub file_holds : (v : FileValue) (old new : Memory) → FileIs v (λ s. new ≡ with_file_home old v.home s) → FileIs v (λ s. FileIsOut old v.home s) → Held (Some (kind_of.File v)) new
+file_holds v old new came out = held_at v (file_from v.start v.history) old new refl came out
 
 -- what is home when the pool is taken apart stays so
 home_stays : (a b : Memory) (p : Pfn) → HasMore a b → (x : Option (List ℕ)) → page_at a p ≡ x → IsSome x → IsHome b p
@@ -109,7 +106,7 @@ free_stays pool a b c one two free = free_by (pool_from pool.start pool.history)
 
 -- the files of all objects
 pub files_of : (objects : List (Option Object)) (m : Memory) → Each Held objects m → HoldsFiles m objects
-files_of [] m h n = λ f p is at. absurd cc
+files_of [] m h n = λ f i first is at. absurd cc
 files_of (x ∷ objects) m h zero = h.0
 files_of (x ∷ objects) m h (suc n) = files_of objects m h.1 n
 
@@ -123,7 +120,7 @@ module _ (objects : List (Option Object)) (pool : PoolValue) (there : object_at 
   at_pool = ap (option_map state_of) there
 
   pool_holds : (m : Memory) → HoldsFile m (states_in objects pool_no)
-  pool_holds m = λ f p is at. absurd (no_pool_file (pool_from pool.start pool.history) pool.start (Some f)
+  pool_holds m = λ f i first is at. absurd (no_pool_file (pool_from pool.start pool.history) pool.start (Some f)
       (sym (ap (λ o. unwrap_or o (PoolIn pool.start)) (pool_run pool.start pool.history)) ∙ same_Some _ _ (sym at_pool ∙ is)))
 
   pub files_beside : (m : Memory) (left : List (Option Object)) → left ≡ slice_set objects pool_no None → HoldsFiles m left → HoldsFiles m objects
@@ -143,8 +140,11 @@ module _ (objects : List (Option Object)) (pool : PoolValue) (there : object_at 
         let page : page_at m b.folio.first ≡ Some b.folio.bytes = subst (λ g. page_at m g.first ≡ Some g.bytes) b.there.2 (pages b.there.0 b.folio b.there.1) in
         home_by (slice_index_or m.pages p None) b.folio.bytes (ap (λ k. slice_index_or m.pages k None) (sym b.first) ∙ page)
 
-    of_file : (p : ℕ) → IsPageOfFile objects p → IsSome (slice_index_or m.pages p None)
-    of_file p b = home_by (slice_index_or m.pages p None) (page_of b.file.bytes) (files b.number b.file p b.there b.page)
+    of_file : (p : ℕ) → IsFrameOfFile objects p → IsSome (slice_index_or m.pages p None)
+    of_file p b =
+        let place : p ≡ b.first + (p - b.first) = omega (arith, b.from) in
+        home_by (slice_index_or m.pages p None) (take PAGE_BYTES (drop ((p - b.first) * PAGE_BYTES) (piece_of b.file b.index)))
+        (ap (λ k. slice_index_or m.pages k None) place ∙ files b.number b.file b.index b.first b.there b.run (p - b.first) (omega (arith, b.from, b.to)))
 
     owned_home : (s : PoolState) (p : ℕ) (owned : Bool) → pool_from pool.start pool.history ≡ Some s → is_owned s p ≡ owned → p < frames → (is_owned s p ≡ false → IsSome (slice_index_or m.pages p None)) → IsSome (slice_index_or m.pages p None)
     owned_home s p false is o below free = free o

@@ -1,16 +1,24 @@
 -- Frames of which more and more are home.
-use Rattle.std.proofs.Common.{◌≡◌, ℕ, ◌*◌, ◌^◌, ◌<◌, List, [], ◌∷◌, ◌++◌, length, refl, sym, ap, subst, ◌∙◌, arith, get_or-set_same, get_or-set_other, zero, suc, inl, inr, append_assoc, length-append, slice_index_or}
+use Rattle.std.proofs.Common.{◌≡◌, ℕ, ◌+◌, ◌*◌, ◌^◌, ◌<◌, Bool, true, false, cond, List, [], ◌∷◌, ◌++◌, length, map, take, drop, refl, sym, ap, subst, ◌∙◌, arith, get_or-set_same, zero, suc, append_assoc, length-append, slice_index_or}
 use Rattle.std.specs.Prelude.{Option, None, Some}
-use Rattle.std.specs.List.{All}
-use Rattle.std.proofs.Math.ListN.{length-set}
-use Rattle.std.proofs.lemmas.Bool.Decides.{eqb_tells}
-use Rattle.std.proofs.lemmas.List.{append-nil, get_or_append_left}
+use Rattle.std.specs.FinMap as finmap
+use Rattle.std.specs.FinMap.{find}
+use Rattle.std.specs.List.{All, AllByRecursion}
+use Rattle.std.specs.Ordering.{nat_cmp, eq_by_cmp}
+use Rattle.std.proofs.lemmas.List.{append-nil, get_or_append_left, get_or-take, get_or-drop}
 use Rattle.std.proofs.lemmas.Nat.{pow_pos}
+use Rattle.std.proofs.lemmas.Bool.Decides.{nat_tests}
+use Rattle.std.proofs.Math.Seq.{drop-drop}
+use native.Mathlib.Nat.{zero-mul, suc-mul}
 use Rattle.ho_base.specs.declared.limits.TheConstants.{PAGE_BYTES}
-use Rattle.memfd_file.specs.Files.{PageIsOut, with_page_home}
-use Rattle.phys_frames.proofs.Homes.{given_count, given_others, one_given}
+use Rattle.ho_events.specs.File.{FileState}
+use Rattle.file_folios.specs.FileAnswers.{folio_at}
+use Rattle.file_folios.specs.Slots.{with_folios, AreOut}
+use Rattle.phys_frames.proofs.Homes.{given_count, given_others, given_run, one_given}
+use Rattle.phys_frames.specs.Homes.{HomeId}
 use Rattle.phys_frames.specs.Memory.{Memory, FolioValue, RunOut, frames_in, page_at, with_folio}
-use Rattle.machine_core.specs.Gathered.{HasMore}
+use Rattle.phys_frames.specs.Pages.{chunks}
+use Rattle.machine_core.specs.Gathered.{HasMore, HoldsRun, piece_of}
 
 pub same_more : (m : Memory) → HasMore m m
 same_more m = record { home = refl; count = refl; kept = λ p bytes h. h }
@@ -26,21 +34,6 @@ more_still a b c h k = record {
 clash : (x : Option (List ℕ)) (bytes : List ℕ) → x ≡ None → x ≡ Some bytes → ⊥
 clash x bytes e h = cc
 
--- a page comes home whose frame was out
-pub page_more : (m : Memory) (q : Option ℕ) (bytes : List ℕ) → PageIsOut m q → HasMore m (with_page_home m q bytes)
-page_more m None bytes out = same_more m
-page_more m (Some p) bytes out = record {
-  home = refl;
-  count = length-set m.pages p (Some bytes);
-  kept = λ r b h. elim (eqb_tells r.0 p) [
-    | inl e ↦ absurd (clash (page_at m r) b (ap (λ k. slice_index_or m.pages k None) e.1 ∙ out.1) h)
-    | inr e ↦ get_or-set_other m.pages p r.0 (Some bytes) None e.1 ∙ h
-  ];
-}
-
-pub page_there : (m : Memory) (p : ℕ) (bytes : List ℕ) → PageIsOut m (Some p) → page_at (with_page_home m (Some p) bytes) (record { 0 = p }) ≡ Some bytes
-page_there m p bytes out = get_or-set_same m.pages p (Some bytes) None out.0
-
 -- a folio comes home, which was out
 pub folio_more : (m : Memory) (f : FolioValue) → RunOut m f.first f.order → HasMore m (with_folio m f)
 folio_more m f out = record {
@@ -54,6 +47,60 @@ folio_there m f out long none =
     let within : f.first.0 < length m.pages = omega (arith, out.0, pow_pos f.order.0) in
     let page : length f.bytes ≡ PAGE_BYTES = long ∙ ap (λ n. 2 ^ n * PAGE_BYTES) none in
     ap (λ n. page_at n f.first) (one_given m f none within page) ∙ get_or-set_same m.pages f.first.0 (Some f.bytes) None within
+
+-- a page of the pages of bytes
+page_in : (p n : ℕ) (bytes : List ℕ) (j : ℕ) → j < n → slice_index_or (map Some (chunks p n bytes)) j None ≡ Some (take p (drop (j * p) bytes))
+page_in p zero bytes j lt = absurd (omega arith)
+page_in p (suc n) bytes zero lt = ap (λ k. Some (take p (drop k bytes))) (sym (zero-mul p))
+page_in p (suc n) bytes (suc j) lt =
+    page_in p n (drop p bytes) j (omega arith) ∙ ap (λ l. Some (take p l)) (drop-drop (j * p) p bytes ∙ ap (λ k. drop k bytes) (omega (arith, suc-mul j p)))
+
+pub run_there : (m : Memory) (f : FolioValue) → RunOut m f.first f.order → HoldsRun (with_folio m f) f.order.0 f.first.0 f.bytes
+run_there m f out j lt =
+    sym (get_or-take (frames_in f.order) (drop f.first.0 (with_folio m f).pages) j None lt ∙ get_or-drop f.first.0 (with_folio m f).pages j None)
+    ∙ ap (λ l. slice_index_or l j None) (given_run m f out.0) ∙ page_in PAGE_BYTES (frames_in f.order) f.bytes j lt
+
+pub run_stays : (order first : ℕ) (bytes : List ℕ) (a b : Memory) → HasMore a b → HoldsRun a order first bytes → HoldsRun b order first bytes
+run_stays order first bytes a b more h = λ j lt. more.kept (record { 0 = first + j }) (take PAGE_BYTES (drop (j * PAGE_BYTES) bytes)) (h j lt)
+
+-- folios come home one after the other, which were out
+pub folios_more : (m : Memory) (folios : List FolioValue) → AreOut m folios → HasMore m (with_folios m folios)
+unfolding with_folios
+folios_more m [] out = same_more m
+folios_more m (f ∷ folios) out = more_still m (with_folio m f) (with_folios (with_folio m f) folios) (folio_more m f out.0) (folios_more (with_folio m f) folios out.1)
+
+module _ (f : FileState) (home : HomeId) where
+  abbrev of_run : ℕ × ℕ → FolioValue
+  of_run = folio_at f home
+
+  runs_there : (m : Memory) (es : List (ℕ × ℕ)) → AreOut m (map of_run es) → AllByRecursion (λ (e : ℕ × ℕ). HoldsRun (with_folios m (map of_run es)) f.order e.1 (piece_of f e.0)) es
+  unfolding with_folios
+  runs_there m [] out = tt
+  runs_there m (e ∷ es) out = (
+    run_stays f.order e.1 (piece_of f e.0) (with_folio m (of_run e)) (with_folios (with_folio m (of_run e)) (map of_run es)) (folios_more (with_folio m (of_run e)) (map of_run es) out.1) (run_there m (of_run e) out.0),
+    runs_there (with_folio m (of_run e)) es out.1,
+  )
+
+-- what holds of all entries holds of the one that is found
+found_entry : (P : ℕ × ℕ → Type 0) (es : List (ℕ × ℕ)) (i p : ℕ) → AllByRecursion P es → find nat_cmp i es ≡ Some p → P (i, p)
+found_entry P [] i p h at = absurd cc
+found_entry P (e ∷ es) i p h at = go (found_entry P es i p h.1) (eq_by_cmp nat_cmp i e.0) refl at
+  where
+    same_first : Some e.1 ≡ Some p → e.1 ≡ p
+    same_first k = cc
+
+    same_key : eq_by_cmp nat_cmp i e.0 ≡ true → e.0 ≡ i
+    same_key t = grind (arith, nat_tests)
+
+    go : (find nat_cmp i es ≡ Some p → P (i, p)) → (b : Bool) → eq_by_cmp nat_cmp i e.0 ≡ b → cond b (Some e.1) (find nat_cmp i es) ≡ Some p → P (i, p)
+    go more true t k = subst P (λ n. (same_key t n, same_first k n)) h.0
+    go more false t k = more k
+
+-- each run of a file that came home is so with what the file has at the run's index
+pub file_runs : (m : Memory) (f : FileState) (home : HomeId) (i first : ℕ) → AreOut m (map (folio_at f home) (finmap.entries f.runs)) → finmap.get f.runs i ≡ Some first → HoldsRun (with_folios m (map (folio_at f home) (finmap.entries f.runs))) f.order first (piece_of f i)
+file_runs m f home i first out at =
+    found_entry (λ (e : ℕ × ℕ). HoldsRun (with_folios m (map (folio_at f home) (finmap.entries f.runs))) f.order e.1 (piece_of f e.0)) (finmap.entries f.runs) i first
+    (runs_there f home m (finmap.entries f.runs) out) (sym (finmap.get-entries f.runs i) ∙ at)
 
 -- a fact of each element of a list and of frames
 abbrev pub Each : {X : Type 0} → (X → Memory → Type 0) → List X → Memory → Type 0

@@ -1,15 +1,14 @@
 -- An agent, as a reach shows it: who it is, its log, and what it has in hand.
-use Rattle.std.specs.Prelude.{◌≡◌, ℕ, ◌+◌, ◌<◌, ◌≤◌, ◌==◌, nat_lt, if◌then◌else◌, option_map, IsTrue, List, [], ◌∷◌, ◌++◌, Option, None, Some}
+use Rattle.std.specs.Prelude.{◌≡◌, ℕ, ◌+◌, ◌<◌, ◌≤◌, ◌==◌, nat_lt, if◌then◌else◌, IsTrue, List, [], ◌∷◌, ◌++◌, Option, None, Some}
 use Rattle.std.specs.List.{list_all}
 use Rattle.ho_base.specs.ShapeRule.{Layout}
-use Rattle.ho_base.specs.declared.numbers.ObjectNo.{ObjectNo}
 use Rattle.ho_events.specs.declared.entry.Entry.{Entry}
 use Rattle.ho_events.specs.declared.entry.Place.TheVariants as place
 use Rattle.ho_world.specs.World.{State}
 use Rattle.ho_world.specs.Logs.{Known, Paired}
 use Rattle.phys_frames.specs.Homes.{HomeId}
 use Rattle.machine_core.specs.declared.object.Object.{Object}
-use Rattle.machine_core.specs.Objects.{Start, start_of, history_of, known_of, spot_of, spot_at, number_of, IsRunOf, IsOfMachine}
+use Rattle.machine_core.specs.Objects.{Start, start_of, history_of, spot_of, spot_at, number_of, IsRunOf, IsOfMachine}
 
 -- the kernel at which an agent works: its number, its update number, its machine's shape, the home of the machine's
 -- frames, and the greatest stamp in it as the work began

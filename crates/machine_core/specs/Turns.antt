@@ -1,6 +1,7 @@
 -- What turns of an agent do, and why a command stops in the middle.
-use Rattle.std.specs.Prelude.{◌≡◌, ℕ, ◌<◌, ◌≤◌, ◌^◌, ◌==◌, nat_le, Bool, true, false, not, ◌||◌, IsTrue, ◌⊎◌, List, [], ◌∷◌, ◌++◌, map, unwrap_or, Option, None, Some, MatchOption}
+use Rattle.std.specs.Prelude.{◌≡◌, ℕ, ◌<◌, ◌≤◌, ◌^◌, nat_le, Bool, true, false, not, ◌||◌, IsTrue, ◌⊎◌, List, [], ◌∷◌, ◌++◌, map, unwrap_or, Option, None, Some, MatchOption}
 use Rattle.std.specs.List.{list_all}
+use Rattle.ho_base.specs.declared.limits.TheConstants.{MAX_ORDER}
 use Rattle.ho_base.specs.declared.numbers.ObjectNo.{ObjectNo}
 use Rattle.ho_events.specs.declared.entry.Entry.{Entry}
 use Rattle.ho_events.specs.declared.entry.Place.TheVariants.{Object}
@@ -88,10 +89,10 @@ abbrev pub IsShut : Option Start → List Entry → Type 0
 IsShut None h = ⊥
 IsShut (Some s) h = MatchOption (file_then s h) (Unit {0}) (λ f. f.opened ≡ false)
 
--- a file isn't a memfd of single frames, which are all that is built so far
+-- a file isn't a memfd of an order that runs may have, which are all that is built so far
 abbrev pub IsOther : Option Start → List Entry → Type 0
 IsOther None h = ⊥
-IsOther (Some s) h = MatchOption (file_then s h) (Unit {0}) (λ f. (is_device f.kind || not (f.order == 0)) ≡ true)
+IsOther (Some s) h = MatchOption (file_then s h) (Unit {0}) (λ f. (is_device f.kind || not (nat_le f.order MAX_ORDER)) ≡ true)
 
 -- a session lists a file twice
 abbrev pub IsDoubled : Option Start → List Entry → Type 0
@@ -99,8 +100,8 @@ IsDoubled None h = ⊥
 IsDoubled (Some s) h = are_distinct (map (λ r. r.file) (references (session_in (unwrap_or (run s.state h) s.state)))) ≡ false
 
 -- After this history the object can't be used for this event as a command has to. It can't make the event, whatever the
--- reply; or the event uses a label's file, which isn't open; or it is one of runs, at a file that is no memfd of single
--- frames; or it ends a session, which lists a file twice.
+-- reply; or the event uses a label's file, which isn't open; or it is one of runs, at a file that is no memfd of an
+-- order that runs may have; or it ends a session, which lists a file twice.
 abbrev pub IsUnfit : Event → Option Start → List Entry → At → ℕ → Type 0
 IsUnfit event start h at n =
     CannotCome start h at n event

@@ -17,9 +17,9 @@ use phys_frames::{Folio, Frames};
 use pool_core::Pool;
 
 impl Kernel {
-    /// The frames of the kernel's machine, after its objects ended and these folios came home: the page of each file
-    /// has the file's bytes, with zeros past them, and the frame of each folio has the folio's bytes. Where each owned
-    /// frame is one of these, every frame is home. It takes no memory.
+    /// The frames of the kernel's machine, after its objects ended and these folios came home: each run of a file has
+    /// the file's bytes of its index, with zeros past them, and the frame of each folio has the folio's bytes. Where
+    /// each owned frame is one of these, every frame is home. It takes no memory.
     pub fn gather(self, folios: Vec<Folio>) -> Frames
         requires of_home { AreOf self.home folios.items }
         requires single { All (λ f. f.order.0 ≡ 0) folios.items }
@@ -46,7 +46,7 @@ impl Kernel {
 }
 
 /// The frames of a pool, after all other objects ended and folios came home: each frame that no run of the pool owns is
-/// home, and so are the pages of the files and the folios, with their bytes.
+/// home, and so are the runs of the files and the folios, with their bytes.
 pub(crate) fn bring_home(pool: Pool, objects: Vec<Option<Object>>, folios: Vec<Folio>) -> Frames
     requires objects { All (IsLeft pool.home) objects.items }
     requires folios { AreOf pool.home folios.items }
@@ -74,7 +74,7 @@ fn give_objects(mut objects: Vec<Option<Object>>, frames: &mut Frames)
     objects.destroy_empty();
 }
 
-/// Ends an object; a file's folio comes home.
+/// Ends an object; a file's folios come home.
 fn give_object(object: Option<Object>, frames: &mut Frames)
     requires { IsLeft frames.old.home object }
     ensures frames { HasMore frames.old frames.new }

@@ -38,7 +38,7 @@ impl Object {
             Object::Pool(pool) => pool.reserve(entries),
             Object::Registry(registry) => registry.reserve(entries),
             Object::Session(session) => session.reserve(entries, entries),
-            Object::File(file) => file.reserve(entries),
+            Object::File(file) => file.reserve(entries, 0),
         }
     }
 

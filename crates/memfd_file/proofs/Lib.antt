@@ -1,4 +1,3 @@
 pub mod FileSteps
-pub mod HeldFiles
-pub mod Pages
-pub mod Ranges
+pub mod Overwriting
+pub mod Told

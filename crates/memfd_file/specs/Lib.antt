@@ -1,4 +1,3 @@
 pub mod FileShown
 pub mod FileValues
 pub mod Files
-pub mod Held

@@ -1,16 +1,16 @@
-//! Files, with the history of all turns on each. At this stage a file is a memfd of order 0 and at most
-//! [`PAGE_BYTES`](ho_base::limits::PAGE_BYTES) bytes, so it has at most one run: a page, at index 0.
+//! Files, with the history of all turns on each. So far each file is a memfd, of any order and up to
+//! [`FILE_BYTES`](ho_base::limits::FILE_BYTES) bytes, with holes.
 #![tactic(auto)]
 
 mod closing;
-mod content;
-mod facts;
 mod file;
 mod finishing;
 mod holding;
 mod laws;
 mod pinning;
+mod sizing;
+mod writing;
 
-pub use facts::Facts;
 pub use file::FileObject;
+pub use file_folios::Facts;
 pub use laws::law_of_writing;

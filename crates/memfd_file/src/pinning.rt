@@ -5,14 +5,17 @@ ghost use Rattle.phys_frames.specs.Homes.{HomeId};
 ghost use Rattle.ho_events.specs.History.{last_stamp, file_from};
 ghost use Rattle.ho_events.specs.Places.{object_at};
 ghost use Rattle.ho_events.specs.Slips.{entry_at, reply_runs};
-ghost use Rattle.ho_events.specs.File.{file_step};
+ghost use Rattle.ho_events.specs.File.{file_step, holes, index_bytes, indexes, runs_of};
+ghost use Rattle.ho_events.specs.Lists.{pieces};
 ghost use Rattle.ho_events.specs.declared.event.Event.TheVariants.{FilePin, FileUnpin};
-ghost use Rattle.memfd_file.specs.Files.{FileHas, IsPinAnswer, IsUnpinAnswer, given_up};
+ghost use Rattle.phys_frames.specs.Memory.{first_frames};
+ghost use Rattle.file_folios.specs.FileAnswers.{AreFillsOf, IsPinAnswer, pin_left, pin_used};
+ghost use Rattle.memfd_file.specs.Files.{FileHas, IsUnpinAnswer, given_up};
 ghost use Rattle.memfd_file.specs.FileValues.{FileIs};
-ghost use Rattle.memfd_file.specs.FileShown.{content_shown, shown, IsSound, SoundIfThere, AtHome};
+ghost use Rattle.memfd_file.specs.FileShown.{IsKept, shown};
 
-use crate::content::{Content, place};
-use crate::file::FileObject;
+use crate::file::{FileObject, place};
+use file_folios::FileFolios;
 use ho_base::Items;
 use ho_base::numbers::Pfn;
 use ho_events::append::append_turn;
@@ -22,21 +25,24 @@ use ho_events::slip::{Slip, Turned};
 use phys_frames::Folio;
 
 impl FileObject {
-    /// Pins the file, and tells all its runs by index. `NotFinished` exactly where an incoming session has it;
-    /// else `AlreadyPinned` exactly where an outgoing one has it. Then nothing changes. A file of this stage has
-    /// no holes below its size, so no folio comes and no refusal of the caller's.
+    /// Pins the file: `NotFinished` exactly where an incoming session has it; else `AlreadyPinned` exactly where an outgoing
+    /// one has it; else `NoFramesOf` exactly where it has holes below its size and no folio came. Then nothing changes and
+    /// the folios stay with the caller. Else the folios fill all holes, in rising index, and all runs are reported by index.
+    /// A memfd has no refusal of the caller's.
     pub fn pin(&mut self, slip: Slip, fills: &mut Vec<Folio>, lost: Option<Reply>) -> Turned<Reply>
         requires present { FileIs self.old IsSome }
-        requires fills { fills.old.items ≡ [] }
         requires lost { lost ≡ None }
-        requires slip_numbers { 1 ≤ slip.room.reply_numbers }
+        requires fills { FileHas self.old (λ f. AreFillsOf self.old.home f.order fills.old.items) }
+        requires fills_count { 0 < vec_len fills.old → FileHas self.old (λ f. vec_len fills.old ≡ length (holes f (indexes f))) }
+        requires slip_fills { vec_len fills.old ≤ slip.room.event_numbers }
+        requires slip_runs { FileHas self.old (λ f. pieces (length f.bytes) (index_bytes f) ≤ slip.room.reply_numbers) }
         requires room { 0 < self.old.room }
         requires agent_stamp { slip.at.last < 2 ^ 63 }
         requires object_stamp { last_stamp self.old.history < 2 ^ 63 }
-        ensures exact { FileHas self.old (λ f. IsPinAnswer f result.value) }
-        ensures few { length (reply_runs result.value) ≤ 1 }
-        ensures fills { fills.new.items ≡ [] }
-        ensures told { result.entry ≡ entry_at slip.at (last_stamp self.old.history) (object_at self.old.number) (FilePin []) result.value }
+        ensures exact { FileHas self.old (λ f. FileHas self.new (λ g. IsPinAnswer f (vec_len fills.old) g result.value)) }
+        ensures few { length (reply_runs result.value) ≤ slip.room.reply_numbers }
+        ensures fills { fills.new.items ≡ pin_left result.value fills.old.items }
+        ensures told { result.entry ≡ entry_at slip.at (last_stamp self.old.history) (object_at self.old.number) (FilePin (first_frames (pin_used result.value fills.old.items))) result.value }
         ensures kept { self.new.history ≡ self.old.history ++ result.entry ∷ [] }
         ensures number { self.new.number ≡ self.old.number }
         ensures start { self.new.start ≡ self.old.start }
@@ -45,11 +51,12 @@ impl FileObject {
         ensures run { IsTrue (is_some (file_from self.new.start self.new.history)) }
     {
         let (at, own, copy, value) = slip.open();
-        let reply = match &mut self.content {
+        let mut used = own.event_runs;
+        let reply = match &mut self.file {
             None => unreachable!(),
-            Some(content) => content.pin(own.reply_runs),
+            Some(file) => file.pin(fills, &mut used, own.reply_runs),
         };
-        let event = Event::FilePin(Items::from_vec(own.event_runs));
+        let event = Event::FilePin(Items::from_vec(used));
         append_turn(
             &mut self.history,
             self.number,
@@ -61,17 +68,17 @@ impl FileObject {
         )
     }
 
-    /// Ends the pin, and tells all runs by index. Where a label or an incoming session has the file, it is kept;
-    /// else it is absent afterwards, and its folios are put at the end of the caller's.
+    /// Ends the pin, and reports all runs by index. Where a label or an incoming session has the file, it is kept; else it is
+    /// absent afterwards, and its folios are put at the end of the caller's.
     pub fn unpin(&mut self, slip: Slip, given: &mut Vec<Folio>) -> Turned<Reply>
         requires pinned { FileHas self.old (λ f. f.pin ≡ true) }
-        requires given { vec_len given.old < vec_capacity given.old }
-        requires slip_numbers { 1 ≤ slip.room.reply_numbers }
+        requires given { FileHas self.old (λ f. vec_len given.old + length (runs_of f) ≤ vec_capacity given.old) }
+        requires slip_numbers { FileHas self.old (λ f. length (runs_of f) ≤ slip.room.reply_numbers) }
         requires room { 0 < self.old.room }
         requires agent_stamp { slip.at.last < 2 ^ 63 }
         requires object_stamp { last_stamp self.old.history < 2 ^ 63 }
         ensures exact { FileHas self.old (λ f. IsUnpinAnswer f result.value) }
-        ensures few { length (reply_runs result.value) ≤ 1 }
+        ensures few { length (reply_runs result.value) ≤ slip.room.reply_numbers }
         ensures given { FileHas self.old (λ f. given.new.items ≡ given.old.items ++ given_up self.old.home f result.value) }
         ensures told { result.entry ≡ entry_at slip.at (last_stamp self.old.history) (object_at self.old.number) FileUnpin result.value }
         ensures kept { self.new.history ≡ self.old.history ++ result.entry ∷ [] }
@@ -82,7 +89,7 @@ impl FileObject {
         ensures run { IsTrue (is_some (file_from self.new.start self.new.history)) }
     {
         let (at, own, copy, value) = slip.open();
-        let reply = unpin(&mut self.content, own.reply_runs, given);
+        let reply = unpin(&mut self.file, own.reply_runs, given);
         append_turn(
             &mut self.history,
             self.number,
@@ -95,49 +102,45 @@ impl FileObject {
     }
 }
 
-/// Ends the pin. Where a label or an incoming session has the file, it is kept and its runs are told; else it
-/// is gone, and its folio is given up.
-fn unpin(content: &mut Option<Content>, runs: Vec<Pfn>, given: &mut Vec<Folio>) -> Reply
-    requires sound { SoundIfThere content.old }
-    requires pinned { MatchOption content.old ⊥ (λ c. c.pin ≡ true) }
+/// Ends the pin. Where a label or an incoming session has the file, it is kept and its runs are reported; else it is gone,
+/// and its folios are given up.
+fn unpin(file: &mut Option<FileFolios>, runs: Vec<Pfn>, given: &mut Vec<Folio>) -> Reply
+    requires pinned { MatchOption file.old ⊥ (λ v. v.state.pin ≡ true) }
     requires empty { runs.items ≡ [] }
-    requires room { 0 < vec_capacity runs }
-    requires given { vec_len given.old < vec_capacity given.old }
-    ensures answer { MatchOption content.old ⊥ (λ c. IsUnpinAnswer (content_shown c) result) }
-    ensures step { file_step (shown content.old) FileUnpin result ≡ Some (shown content.new) }
-    ensures sound { SoundIfThere content.new }
-    ensures home { (home : HomeId) → AtHome home content.old → AtHome home content.new }
-    ensures given { (home : HomeId) → AtHome home content.old → MatchOption content.old ⊥ (λ c. given.new.items ≡ given.old.items ++ given_up home (content_shown c) result) }
-    ensures few { length (reply_runs result) ≤ 1 }
+    requires room { MatchOption file.old ⊥ (λ v. length (runs_of v.state) ≤ vec_capacity runs) }
+    requires given { MatchOption file.old ⊥ (λ v. vec_len given.old + length (runs_of v.state) ≤ vec_capacity given.old) }
+    ensures answer { MatchOption file.old ⊥ (λ v. IsUnpinAnswer v.state result) }
+    ensures step { file_step (shown file.old) FileUnpin result ≡ Some (shown file.new) }
+    ensures kept { (home : HomeId) → IsKept home file.old → IsKept home file.new }
+    ensures given { MatchOption file.old ⊥ (λ v. given.new.items ≡ given.old.items ++ given_up v.home v.state result) }
 {
-    match content.take() {
+    match file.take() {
         None => unreachable!(),
-        Some(file) => {
-            if file.opened || file.hold {
-                keep(content, file, runs)
+        Some(held) => {
+            let facts = held.facts();
+            if facts.opened || facts.hold {
+                keep(file, held, runs)
             } else {
-                Reply::Gone(file.give_up(runs, given))
+                Reply::Gone(held.give_up(runs, given))
             }
         }
     }
 }
 
-/// Puts a file back without its pin, and tells its runs.
-fn keep(content: &mut Option<Content>, mut file: Content, runs: Vec<Pfn>) -> Reply
-    requires empty_place { content.old ≡ None }
-    requires sound { IsSound file }
-    requires pinned { file.pin ≡ true }
-    requires kept { (file.opened || file.hold) ≡ true }
+/// Puts a file back without its pin, and reports its runs.
+fn keep(file: &mut Option<FileFolios>, mut held: FileFolios, runs: Vec<Pfn>) -> Reply
+    requires empty_place { file.old ≡ None }
+    requires pinned { held.state.pin ≡ true }
+    requires kept { (held.state.opened || held.state.hold) ≡ true }
     requires empty { runs.items ≡ [] }
-    requires room { 0 < vec_capacity runs }
-    ensures answer { IsUnpinAnswer (content_shown file) result }
-    ensures step { file_step (Some (content_shown file)) FileUnpin result ≡ Some (shown content.new) }
-    ensures file { content.new ≡ Some (record file { pin = false }) }
-    ensures given { (home : HomeId) → given_up home (content_shown file) result ≡ [] }
-    ensures few { length (reply_runs result) ≤ 1 }
+    requires room { length (runs_of held.state) ≤ vec_capacity runs }
+    ensures answer { IsUnpinAnswer held.state result }
+    ensures step { file_step (Some held.state) FileUnpin result ≡ Some (shown file.new) }
+    ensures kept { (home : HomeId) → IsKept home (Some held) → IsKept home file.new }
+    ensures given { given_up held.home held.state result ≡ [] }
 {
-    file.pin = false;
-    let told = file.runs(runs);
-    place(content, file);
+    held.set_pin(false);
+    let told = held.runs(runs);
+    place(file, held);
     Reply::KeptRuns(told)
 }

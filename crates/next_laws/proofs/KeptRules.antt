@@ -4,11 +4,12 @@ use Rattle.std.specs.Prelude.{◌&&◌, ◌||◌, nat_lt, nat_le, Option, None, 
 use Rattle.std.specs.List.{AllByRecursion, list_all, flat_map}
 use Rattle.std.proofs.lemmas.Bool.{and_parts, leb-true}
 use Rattle.std.proofs.lemmas.List.{length-append}
-use Rattle.ho_base.specs.declared.limits.TheConstants.{OUT_SLOTS, FILES}
+use Rattle.std.proofs.lemmas.List.Folds.{list_all-map}
+use Rattle.ho_base.specs.declared.limits.TheConstants.{OUT_SLOTS, SESSION_FILES, FILES}
 use Rattle.fdt_blob.specs.Trees.{Tree, properties_of, children_of, value_in, tree_in, same_name}
 use Rattle.record_frames.specs.Ram.{is_frame}
 use Rattle.record_frames.specs.Sheets.{Sheet, FileRecord, SessionRecord, FileSlot, SessionSlot, items_of, map_items, file_slot, session_slot, record_numbers}
-use Rattle.record_frames.specs.Rules.{Version, version_1, versions, all_rise, bytes_before, keeps, is_session_sheet, is_file_sheet, is_list_sheet, is_run, session_fits, file_fits, fits, all_apart}
+use Rattle.record_frames.specs.Rules.{Version, version_1, versions, all_rise, bytes_before, keeps, is_session_sheet, is_file_slot, is_file_sheet, is_list_sheet, is_run, session_fits, file_fits, fits, all_apart}
 use Rattle.record_frames.specs.Handover.{◌>>=◌, only_if, Root, version_of, root_of, number_of, shape_of, COMPATIBLE, MEMORY_MAP, SCRATCH, LUO}
 use Rattle.record_frames.specs.Kept.{files_of, runs_of, file_sheets, is_file, are_sessions, are_records}
 use Rattle.next_laws.proofs.LastFronts.{items_map, last_says, each_says}
@@ -74,6 +75,14 @@ file_tells before files earlier items next h =
     let few = leb-true (before + (length (items_of earlier) + length items)) FILES c.1 in
     (omega (arith, few, length-append (items_of earlier) items), b.1)
 
+slot_tells : (before files : ℕ) (earlier : List (Sheet FileSlot)) (items : List FileSlot) (next : ℕ) → is_file_sheet version_1 before files earlier items next ≡ true → list_all is_file_slot items ≡ true
+slot_tells before files earlier items next h =
+    let a = and_parts _ (nat_lt 0 next || eqb (length (items_of earlier) + length items) files) h in
+    let b = and_parts _ (tokens_rise (items_of earlier ++ items)) a.0 in
+    let c = and_parts _ (nat_le (before + (length (items_of earlier) + length items)) FILES) b.0 in
+    let d = and_parts _ (nat_le (length (items_of earlier) + length items) SESSION_FILES) c.0 in
+    (and_parts _ (list_all is_file_slot items) d.0).1
+
 list_tells : (n order folios : ℕ) (earlier : List (Sheet ℕ)) (items : List ℕ) (next : ℕ) → is_list_sheet n order folios earlier items next ≡ true → list_all (is_run n order) items ≡ true
 list_tells n order folios earlier items next h =
     let a = and_parts _ (nat_lt 0 next || eqb (length (items_of earlier) + length items) folios) h in
@@ -85,10 +94,15 @@ runs_fit n f h =
     each_says (is_list_sheet n f.order (length (runs_of f))) (is_run n f.order) (list_tells n f.order (length (runs_of f))) f.lists
     (and_parts (keeps (is_list_sheet n f.order (length (runs_of f))) f.lists) (list_all fits (runs_of f)) h).0
 
--- a session's files rise by token, and keep the rules of files of n frames
+-- the slot of a file keeps its rules
+abbrev pub has_slot : FileRecord → Bool
+has_slot f = is_file_slot (file_slot f)
+
+-- a session's files rise by token, and keep the rules of files of n frames and of slots
 pub record SessionFacts (n : ℕ) (s : SessionRecord) : Type 0 where
   pub rise : all_rise (λ (a b : FileRecord). nat_lt a.token b.token) (files_of s) ≡ true
   pub files : list_all (is_file n) (files_of s) ≡ true
+  pub slots : list_all has_slot (files_of s) ≡ true
 
 slots_are : (s : SessionRecord) → items_of (file_sheets s) ≡ map file_slot (files_of s)
 slots_are s = items_map file_slot s.files
@@ -116,6 +130,8 @@ all_sessions n before (s ∷ ss) le h =
         record {
           rise = rise_map file_slot (λ (a b : FileRecord). nat_lt a.token b.token) (λ (a b : FileSlot). nat_lt a.token b.token) (λ a b. refl) (files_of s) ∙ slots.1;
           files = (and_parts (list_all file_fits (items_of (file_sheets s))) (list_all (is_file n) (files_of s)) parts.1).1;
+          slots = sym (list_all-map is_file_slot file_slot (files_of s)) ∙ ap (list_all is_file_slot) (sym (slots_are s))
+              ∙ each_says (is_file_sheet version_1 before (length (files_of s))) is_file_slot (slot_tells before (length (files_of s))) (file_sheets s) parts.0;
         },
         rest.1,
       ),

@@ -17,7 +17,7 @@ use Rattle.ho_events.specs.Pool.{own}
 use Rattle.ho_events.specs.Registry.{Slots}
 use Rattle.ho_events.specs.Session.{In, Listed}
 use Rattle.ho_world.specs.Frozen.{CarriedFile, CarriedSession, carried_files, next_listed, next_waiting, numbers_below, own_files, own_bounds}
-use Rattle.pool_core.specs.PoolFlags.{opened, owned_at}
+use Rattle.pool_frames.specs.PoolAdopting.{owned_at}
 use Rattle.registry_core.specs.Registries.{slotted_from}
 use Rattle.session_core.specs.SessionShown.{listed}
 use Rattle.next_laws.specs.Begins.{run_of, runs_with, all_runs, NoBounds, names_of, numbered, PoolIsNext, RegistryIsNext, SessionIsNext}
@@ -50,7 +50,6 @@ no_bounds (None ∷ bounds) m h = no_bounds bounds m h.1
 no_bounds (Some b ∷ bounds) m h = absurd (let no = h.0 in cc)
 
 pub pool_is_next : PoolIsNext
-unfolding opened
 pool_is_next f none = λ j. record {
   shape = f.shape;
   owned = (owned_files (carried_files f) finmap.empty ∙ sym (no_bounds f.bounds (own_files (carried_files f) finmap.empty) none)) j;

@@ -1,5 +1,5 @@
 -- What the objects of the next kernel are made of.
-use Rattle.std.specs.Prelude.{◌≡◌, ℕ, ◌+◌, Bool, true, false, ◌&&◌, ◌==◌, nat_le, List, [], ◌∷◌, map, length, flat_map, Option, None}
+use Rattle.std.specs.Prelude.{◌≡◌, ℕ, ◌+◌, Bool, true, false, List, [], ◌∷◌, map, length, flat_map, Option, None}
 use Rattle.std.specs.List.{IsDistinct, list_all, AllByRecursion}
 use Rattle.std.specs.FinMap as finmap
 use Rattle.ho_base.specs.declared.numbers.Kind.{Kind}
@@ -12,22 +12,19 @@ use Rattle.ho_events.specs.Lists.{same_bytes}
 use Rattle.ho_events.specs.Handler.{BoundState}
 use Rattle.ho_events.specs.Session.{In}
 use Rattle.ho_world.specs.Frozen.{CarriedFile, CarriedSession, Frozen, carried_files, next_pool, next_registry, next_listed}
-use Rattle.pool_core.specs.PoolFlags.{opened}
+use Rattle.pool_frames.specs.PoolAdopting.{adopted_pool}
 use Rattle.registry_core.specs.Registries.{waiting_registry}
 use Rattle.session_core.specs.SessionShown.{TokensRise}
 use Rattle.session_core.specs.Sessions.{fresh_incoming}
 
--- a carried file is a memfd of single frames with at most one page
+-- a carried file is a memfd
 abbrev pub is_memfd : Kind → Bool
 is_memfd Memfd = true
 is_memfd kind = false
 
-abbrev pub is_one_page : CarriedFile → Bool
-is_one_page c = is_memfd c.kind && c.order == 0 && nat_le (length c.runs) 1
-
--- every carried file is
-abbrev pub are_one_page : Frozen → Bool
-are_one_page f = list_all is_one_page (carried_files f)
+-- every carried file is a memfd
+abbrev pub are_memfds : Frozen → Bool
+are_memfds f = list_all (λ c. is_memfd c.kind) (carried_files f)
 
 -- the runs of carried files with their orders, file by file
 abbrev pub run_of : ℕ → ℕ → Pfn × Order
@@ -54,7 +51,7 @@ numbered n (c ∷ cs) = (record { 0 = c.token }, record { 0 = n }, c.handle) ∷
 
 -- The pool of the next kernel owns the runs of all carried files.
 abbrev pub PoolIsNext : Type 0
-PoolIsNext = (f : Frozen) → NoBounds f.bounds → opened f.shape (all_runs (carried_files f)) [] ≡ next_pool f
+PoolIsNext = (f : Frozen) → NoBounds f.bounds → adopted_pool f.shape (all_runs (carried_files f)) ≡ next_pool f
 
 -- In the registry of the next kernel the carried names wait, and the first file numbers are in use.
 abbrev pub RegistryIsNext : Type 0

@@ -2,8 +2,8 @@
 
 ghost use Rattle.next_laws.specs.Begins.{PoolIsNext, RegistryIsNext, SessionIsNext};
 
-/// A pool that is opened with the runs of all carried files is the next kernel's, where there is no bound record. Nothing
-/// is done.
+/// A pool that begins with the runs of all carried files is the next kernel's, where there is no bound record. Nothing is
+/// done.
 pub fn law_of_the_pool()
     ensures { PoolIsNext }
 {}

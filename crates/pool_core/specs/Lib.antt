@@ -1,4 +1,1 @@
-pub mod PoolAdopting
-pub mod PoolFlags
-pub mod PoolRunFlags
 pub mod PoolValues

@@ -1,5 +1,5 @@
 -- What contracts see of the pool.
-use Rattle.std.specs.Prelude.{ℕ, List, MatchOption}
+use Rattle.std.specs.Prelude.{◌≡◌, ℕ, List, MatchOption, Some}
 use Rattle.ho_base.specs.ShapeRule.{Layout}
 use Rattle.phys_frames.specs.Homes.{HomeId}
 use Rattle.ho_events.specs.declared.entry.Entry.{Entry}
@@ -18,3 +18,7 @@ pub record PoolValue : Type 0 where
 -- the pool is in a state of which a fact holds: its history is a run of its steps from its start to that state
 abbrev pub PoolIs : PoolValue → (PoolState → Type 0) → Type 0
 PoolIs p P = MatchOption (pool_from p.start p.history) ⊥ P
+
+-- the history is a run of the pool's steps from its start to this state
+pub record KeepsPool (s start : PoolState) (history : List Entry) : Type 0 where
+  pub run : pool_from start history ≡ Some s

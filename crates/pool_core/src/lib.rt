@@ -2,10 +2,7 @@
 #![tactic(auto)]
 
 mod adopting;
-mod lodging;
-mod opening;
+mod asking;
 mod pool;
-mod runs;
-mod table;
 
 pub use pool::Pool;

@@ -93,7 +93,7 @@ kexec_said v blob h = absurd (cc)
 is_taken_line : (r : Reading) (v : Verb) (l : Line) → is_unbuilt_verb v ≡ false → is_said v l ≡ true → is_unbuilt r l ≡ false → is_taken l ≡ true
 is_taken_line r v (Act command) built h g =
     let word : v ≡ word_of command = said_word v command h in
-    both _ _ (both _ _ (rw word at h) (not_is _ (rw word at built))) (not_is _ g)
+    both _ _ (rw word at h) (not_is _ (rw word at built))
 is_taken_line r v (Kexec blob) built h g = kexec_said v blob h
 is_taken_line r v other built h g = refl
 

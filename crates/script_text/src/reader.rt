@@ -9,7 +9,7 @@ ghost use Rattle.ho_events.specs.Script.Words.{is_script_byte as script_byte};
 ghost use Rattle.ho_events.specs.Script.SoFar.{nothing_read, closed as closed_rule, sections, place_of as place_rule, label_of as label_rule, is_bound_by as bound_rule, with_agent as with_agent_rule, with_command as command_rule};
 ghost use Rattle.ho_events.specs.declared.line.Line.TheVariants.{Machine, Scratch, Fail as Plan, Round, Agent, Kexec as Boot, Command as Act};
 
-use crate::commands::{is_unbuilt, label_of};
+use crate::commands::label_of;
 use crate::labels::Labels;
 use crate::lines::line_of;
 use crate::words::{has_script_bytes, is_comment, next_word};
@@ -310,9 +310,6 @@ impl Reader {
         }
         if self.commands >= COMMANDS {
             return Ok(Err(Reason::Limit));
-        }
-        if is_unbuilt(&command) {
-            return Ok(Err(Reason::Later));
         }
         self.add_command(command)?;
         Ok(Ok(()))

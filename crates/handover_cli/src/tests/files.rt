@@ -24,10 +24,10 @@ fn a_new_file_is_an_open_memfd_of_no_bytes(rt: HostRuntime) {
     let mut file = FileObject::absent(ObjectNo(38), frames.home(), rt.alloc());
     assert!(rt; !file.is_present());
     assert_eq!(rt; file.facts(), None);
-    file.reserve(1).expect(&rt, "memory");
+    file.reserve(1, 0).expect(&rt, "memory");
     let slip = Slip::make(rt.alloc(), at(), Listed::nothing()).expect(&rt, "memory");
     assert!(rt; file.last_stamp() < 9);
-    let turned = file.init(slip, Kind::Memfd, Order(0), 0);
+    let turned = file.init(rt.alloc(), slip, Kind::Memfd, Order(0), 0);
     assert_eq!(rt; turned.entry.stamp, 5);
     let facts = Facts {
         kind: Kind::Memfd,

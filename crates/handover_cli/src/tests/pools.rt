@@ -52,7 +52,7 @@ fn cold_pool(rt: &impl Abort, alloc: Global) -> Pool {
 
 /// Of 32 frames, frame 0 and the scratch frames 2 and 3 are never taken.
 #[test]
-#[tactic(auto, using(pool_core::proofs::PoolLists::zeroed_at_home))]
+#[tactic(auto, using(pool_core::proofs::PoolRuns::zeroed_at_home, pool_core::proofs::PoolRuns::zeroed_of_order))]
 fn the_lowest_frames_are_taken_and_come_back(rt: HostRuntime) -> Result<(), Fail> {
     let alloc = rt.alloc();
     let mut pool = cold_pool(&rt, alloc);
@@ -79,7 +79,7 @@ fn the_lowest_frames_are_taken_and_come_back(rt: HostRuntime) -> Result<(), Fail
 }
 
 #[test]
-#[tactic(auto, using(pool_core::proofs::PoolLists::zeroed_at_home))]
+#[tactic(auto, using(pool_core::proofs::PoolRuns::zeroed_at_home, pool_core::proofs::PoolRuns::zeroed_of_order))]
 fn a_pinned_frame_is_not_given_back(rt: HostRuntime) -> Result<(), Fail> {
     let alloc = rt.alloc();
     let mut pool = cold_pool(&rt, alloc);

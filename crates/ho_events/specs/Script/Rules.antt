@@ -2,7 +2,7 @@
 use Rattle.std.specs.Prelude.{ℕ, ◌+◌, Bool, true, false, not, ◌&&◌, ◌==◌, nat_le, if◌then◌else◌, List, [], ◌∷◌, ◌++◌, length}
 use Rattle.std.specs.List.{list_all}
 use Rattle.ho_base.specs.declared.limits.TheConstants.{MIN_FRAMES, MAX_FRAMES, MAX_ORDER, WRITE_BYTES, DEVICE_BYTES, READ_BYTES, AGENTS, KEXECS, COMMANDS}
-use Rattle.ho_events.specs.Script.Unbuilt.{is_unbuilt_verb, is_unbuilt_command}
+use Rattle.ho_events.specs.Script.Unbuilt.{is_unbuilt_verb}
 use Rattle.ho_events.specs.declared.command.Command.{Command}
 use Rattle.ho_events.specs.declared.command.Command.TheVariants as command
 use Rattle.ho_events.specs.declared.line.Line.{Line}
@@ -80,7 +80,7 @@ word_of (command.Finish name) = verb.Finish
 
 -- a command that a script of this stage may have
 abbrev pub is_built : Command → Bool
-is_built c = is_said (word_of c) (line.Command c) && not (is_unbuilt_verb (word_of c)) && not (is_unbuilt_command c)
+is_built c = is_said (word_of c) (line.Command c) && not (is_unbuilt_verb (word_of c))
 
 abbrev pub is_built_work : AgentWork → Bool
 is_built_work work = list_all is_built work.commands

@@ -1,6 +1,7 @@
 //! The files of a session that ends: the part of each, one after another.
 
-ghost use Rattle.std.specs.Prelude.{◌≡◌, ◌<◌, ◌≤◌, ◌^◌, ◌∷◌, [], IfErr, OnErr, OnOk, None, length, vec_len};
+ghost use Rattle.std.specs.Prelude.{◌≡◌, ◌<◌, ◌^◌, ◌∷◌, [], IfErr, OnErr, OnOk, None, length, vec_len};
+ghost use Rattle.std.specs.List.{All};
 ghost use Rattle.ho_base.specs.Objects.{pool_no, registry_no};
 ghost use Rattle.ho_events.specs.Slips.{reply_runs};
 ghost use Rattle.ho_world.specs.Logs.{deed_at};
@@ -13,7 +14,7 @@ ghost use Rattle.luo_calls.specs.Doing.{SticksAfter};
 ghost use Rattle.luo_calls.specs.Replies.{IsGivenUp, IsUnpinReply};
 ghost use Rattle.luo_calls.specs.Stuck.{Sticks, turn_of};
 
-use crate::stuck::{Stopped, Stuck, empty_handed};
+use crate::stuck::{Stopped, Stuck};
 use crate::turns::file::unpin;
 use crate::turns::pool::{give, unmark};
 use crate::turns::registry::free_file;
@@ -23,7 +24,7 @@ use ho_base::numbers::{FileNo, Order, Pfn, Token};
 use ho_events::event::Event;
 use ho_events::reply::Reply;
 use ho_events::slip::At;
-use machine_core::{Halt, Reach};
+use machine_core::Reach;
 use phys_frames::folio::Folio;
 use std::alloc::Global;
 
@@ -63,7 +64,6 @@ fn unmark_any<R: Reach>(
 ) -> Result<(), Stuck>
     requires ready { IsReady at.old (R.shown reach.old) }
     requires free { (R.shown reach.old).hands pool_no ≡ None }
-    requires single { order.0 ≡ 0 }
     requires few { length runs.now < 2 ^ 32 }
     ensures goes { OnOk result (Goes (deeds (unmarked order runs.now)) at.old at.new (R.shown reach.old) (R.shown reach.new)) }
     ensures sticks { IfErr result (λ stuck. Sticks at.old (turn_of (deeds (unmarked order runs.now))) stuck (R.shown reach.old) (R.shown reach.new)) }
@@ -85,9 +85,9 @@ pub fn give_any<R: Reach>(
 ) -> Result<(), Stuck>
     requires ready { IsReady at.old (R.shown reach.old) }
     requires free { (R.shown reach.old).hands pool_no ≡ None }
-    requires single { order.0 ≡ 0 }
     requires few { vec_len folios.old < 2 ^ 32 }
     requires of_home { AreOf (R.shown reach.old).anchor.home folios.old.items }
+    requires of_order { All (λ f. f.order ≡ order) folios.old.items }
     ensures goes { OnOk result (Goes (deeds (given_back order (first_frames folios.old.items))) at.old at.new (R.shown reach.old) (R.shown reach.new)) }
     ensures given { OnOk result (folios.new.items ≡ []) }
     ensures sticks { IfErr result (λ stuck. Sticks at.old (turn_of (deeds (given_back order (first_frames folios.old.items)))) stuck (R.shown reach.old) (R.shown reach.new)) }
@@ -113,9 +113,8 @@ fn close_gone<R: Reach>(
     requires ready { IsReady at.old (R.shown reach.old) }
     requires free { HasFree (R.shown reach.old) }
     requires file { file.0 < FILES }
-    requires single { order.0 ≡ 0 }
-    requires few { length runs.now ≤ 1 }
-    requires given { IsGivenUp (R.shown reach.old).anchor.home (Reply.Gone runs.now) given.old.items }
+    requires few { length runs.now < 2 ^ 32 }
+    requires given { IsGivenUp (R.shown reach.old).anchor.home order (Reply.Gone runs.now) given.old.items }
     ensures goes { OnOk result (Goes (deeds (after_unpin file order (Reply.Gone runs.now))) at.old at.new (R.shown reach.old) (R.shown reach.new)) }
     ensures given { OnOk result (given.new.items ≡ []) }
     ensures sticks { IfErr result (λ stuck. SticksAfter (λ ds. ds ≡ deeds (after_unpin file order (Reply.Gone runs.now))) stuck at.old at.new (R.shown reach.old) (R.shown reach.new)) }
@@ -140,10 +139,9 @@ fn close_rest<R: Reach>(
     requires ready { IsReady at.old (R.shown reach.old) }
     requires free { HasFree (R.shown reach.old) }
     requires file { file.0 < FILES }
-    requires single { order.0 ≡ 0 }
     requires reply { IsUnpinReply reply }
-    requires few { length (reply_runs reply) ≤ 1 }
-    requires given { IsGivenUp (R.shown reach.old).anchor.home reply given.old.items }
+    requires few { length (reply_runs reply) < 2 ^ 32 }
+    requires given { IsGivenUp (R.shown reach.old).anchor.home order reply given.old.items }
     ensures goes { OnOk result (Goes (deeds (after_unpin file order reply)) at.old at.new (R.shown reach.old) (R.shown reach.new)) }
     ensures given { OnOk result (given.new.items ≡ []) }
     ensures sticks { IfErr result (λ stuck. SticksAfter (λ ds. ds ≡ deeds (after_unpin file order reply)) stuck at.old at.new (R.shown reach.old) (R.shown reach.new)) }
@@ -170,13 +168,7 @@ fn close_file<R: Reach>(
     ensures stopped { IfErr result (λ s. SticksAfter (ArePartsOf (kept ∷ [])) s.stuck at.old at.new (R.shown reach.old) (R.shown reach.new)) }
     ensures given_up { IfErr result (λ s. AreOf (R.shown reach.old).anchor.home s.folios.items) }
 {
-    let Ok(mut given) = Vec::with_capacity(alloc, 1) else {
-        let stuck = Stuck {
-            halt: Halt::Memory,
-            held: None,
-        };
-        return Err(empty_handed(alloc, stuck));
-    };
+    let mut given = Vec::new(alloc);
     let (order, reply) = match unpin(alloc, reach, at, kept.1, &mut given) {
         Ok(unpinned) => unpinned,
         Err(stuck) => {

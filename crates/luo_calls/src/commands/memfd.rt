@@ -1,6 +1,7 @@
 //! The command `memfd`.
 
-ghost use Rattle.std.specs.Prelude.{◌≡◌, IfOk, IfErr, OnErr};
+ghost use Rattle.std.specs.Prelude.{◌≡◌, ◌≤◌, IfOk, IfErr, OnErr};
+ghost use Rattle.ho_base.specs.declared.limits.TheConstants.{MAX_ORDER};
 ghost use Rattle.ho_world.specs.Sequences.Files.{memfd_acts};
 ghost use Rattle.machine_core.specs.Agents.{Agent, no_hands};
 ghost use Rattle.machine_core.specs.Commands.{Comes, Halts};
@@ -19,7 +20,7 @@ use ho_events::slip::At;
 use machine_core::{Halt, Labels, Reach};
 use std::alloc::Global;
 
-/// Makes a new empty memfd of order 0 and binds the label to it: refused with `FilesFull` where every file number is
+/// Makes a new empty memfd of an order and binds the label to it: refused with `FilesFull` where every file number is
 /// in use.
 pub fn memfd<R: Reach>(
     alloc: Global,
@@ -31,7 +32,7 @@ pub fn memfd<R: Reach>(
 ) -> Result<Reply, Halt>
     requires ready { IsReady at.old (R.shown reach.old) }
     requires free { (R.shown reach.old).hands ≡ no_hands }
-    requires single { order.0 ≡ 0 }
+    requires order { order.0 ≤ MAX_ORDER }
     ensures comes { IfOk result (λ reply. Comes labels.old.bound labels.new.bound (Command.Memfd label order) reply at.old at.new (R.shown reach.old) (R.shown reach.new)) }
     ensures halts { IfErr result (λ halt. Halts labels.old.bound labels.new.bound (Command.Memfd label order) halt at.old at.new (R.shown reach.old) (R.shown reach.new)) }
 {
@@ -52,7 +53,7 @@ fn memfd_turns<R: Reach>(
 ) -> Result<Reply, Stuck>
     requires ready { IsReady at.old (R.shown reach.old) }
     requires free { (R.shown reach.old).hands ≡ no_hands }
-    requires single { order.0 ≡ 0 }
+    requires order { order.0 ≤ MAX_ORDER }
     ensures comes { IfOk result (λ reply. Comes labels.old.bound labels.new.bound (Command.Memfd label order) reply at.old at.new (R.shown reach.old) (R.shown reach.new)) }
     ensures sticks { IfErr result (λ stuck. SticksAfter (AreWhole (memfd_acts order)) stuck at.old at.new (R.shown reach.old) (R.shown reach.new)) }
     ensures kept { OnErr result (labels.new.bound ≡ labels.old.bound) }

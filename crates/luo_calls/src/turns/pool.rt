@@ -1,9 +1,12 @@
 //! The turns on the pool.
 
 ghost use Rattle.std.specs.Prelude.{◌≡◌, ◌+◌, ◌≤◌, ◌<◌, ◌^◌, ◌∷◌, [], IfOk, OnOk, OnErr, IfErr, None, Some, length, map, MatchOption, vec_len, vec_capacity};
+ghost use Rattle.std.specs.List.{All};
 ghost use Rattle.ho_base.specs.Objects.{pool_no};
+ghost use Rattle.ho_base.specs.declared.limits.TheConstants.{MAX_ORDER};
 ghost use Rattle.ho_world.specs.Logs.{deed_at};
-ghost use Rattle.phys_frames.specs.Memory.{AreOf, first_frames, zeroed};
+ghost use Rattle.phys_frames.specs.Memory.{AreOf, first_frames};
+ghost use Rattle.pool_frames.specs.PoolLending.{zeroed_run};
 ghost use Rattle.machine_core.specs.Agents.{Agent};
 ghost use Rattle.machine_core.specs.Turns.{IsReady, Goes};
 ghost use Rattle.luo_calls.specs.Stuck.{Sticks, turn};
@@ -33,7 +36,7 @@ fn broken_pool(pool: Pool) -> Stuck
     }
 }
 
-/// Takes as many runs of order 0 into the empty list; none, with nothing taken, where too few are free. What is known
+/// Takes as many runs of an order into the empty list; none, with nothing taken, where too few are free. What is known
 /// of the objects in hand may be read at this turn.
 pub fn take_runs<R: Reach>(
     alloc: Global,
@@ -45,12 +48,12 @@ pub fn take_runs<R: Reach>(
 ) -> Result<Option<Snapshot<Items<Pfn>>>, Stuck>
     requires ready { IsReady at.old (R.shown reach.old) }
     requires free { (R.shown reach.old).hands pool_no ≡ None }
-    requires single { order.0 ≡ 0 }
+    requires order { order.0 ≤ MAX_ORDER }
     requires some { 1 ≤ count }
     requires empty { out.old.items ≡ [] }
     requires spare { vec_len out.old + count ≤ vec_capacity out.old }
     ensures got { IfOk result (λ got. TookRuns order count at.old at.new (R.shown reach.old) (R.shown reach.new) got) }
-    ensures out { IfOk result (λ got. MatchOption got (out.new.items ≡ []) (λ runs. out.new.items ≡ map (zeroed (R.shown reach.old).anchor.home) runs.value)) }
+    ensures out { IfOk result (λ got. MatchOption got (out.new.items ≡ []) (λ runs. out.new.items ≡ map (zeroed_run (R.shown reach.old).anchor.home order) runs.value)) }
     ensures count { IfOk result (λ got. MatchOption got (vec_len out.new ≡ 0) (λ runs. length runs.value ≡ count)) }
     ensures sticks { IfErr result (λ stuck. Sticks at.old (turn pool_no (Event.PoolTake order count)) stuck (R.shown reach.old) (R.shown reach.new)) }
     ensures same_at { OnErr result (at.new ≡ at.old) }
@@ -68,7 +71,7 @@ pub fn take_runs<R: Reach>(
     Ok(got)
 }
 
-/// Pins the frames of runs that are owned at order 0.
+/// Pins the frames of owned runs of one order.
 pub fn mark<R: Reach>(
     alloc: Global,
     reach: &mut R,
@@ -78,7 +81,6 @@ pub fn mark<R: Reach>(
 ) -> Result<(), Stuck>
     requires ready { IsReady at.old (R.shown reach.old) }
     requires free { (R.shown reach.old).hands pool_no ≡ None }
-    requires single { order.0 ≡ 0 }
     requires few { length runs.now < 2 ^ 32 }
     ensures goes { OnOk result (Goes (deed_at pool_no [] (Event.PoolMark order runs.now) Reply.Ok ∷ []) at.old at.new (R.shown reach.old) (R.shown reach.new)) }
     ensures sticks { IfErr result (λ stuck. Sticks at.old (turn pool_no (Event.PoolMark order runs.now)) stuck (R.shown reach.old) (R.shown reach.new)) }
@@ -95,7 +97,7 @@ pub fn mark<R: Reach>(
     Ok(())
 }
 
-/// Ends the pins of the frames of runs that are owned at order 0.
+/// Ends the pins of the frames of runs of one order.
 pub fn unmark<R: Reach>(
     alloc: Global,
     reach: &mut R,
@@ -105,7 +107,6 @@ pub fn unmark<R: Reach>(
 ) -> Result<(), Stuck>
     requires ready { IsReady at.old (R.shown reach.old) }
     requires free { (R.shown reach.old).hands pool_no ≡ None }
-    requires single { order.0 ≡ 0 }
     requires few { length runs.now < 2 ^ 32 }
     ensures goes { OnOk result (Goes (deed_at pool_no [] (Event.PoolUnmark order runs.now) Reply.Ok ∷ []) at.old at.new (R.shown reach.old) (R.shown reach.new)) }
     ensures sticks { IfErr result (λ stuck. Sticks at.old (turn pool_no (Event.PoolUnmark order runs.now)) stuck (R.shown reach.old) (R.shown reach.new)) }
@@ -122,7 +123,7 @@ pub fn unmark<R: Reach>(
     Ok(())
 }
 
-/// Gives folios of order 0 back. The list is empty afterwards; where the turn isn't taken, it is as it was.
+/// Gives folios of one order back. The list is empty afterwards; where the turn isn't taken, it is as it was.
 pub fn give<R: Reach>(
     alloc: Global,
     reach: &mut R,
@@ -132,9 +133,9 @@ pub fn give<R: Reach>(
 ) -> Result<(), Stuck>
     requires ready { IsReady at.old (R.shown reach.old) }
     requires free { (R.shown reach.old).hands pool_no ≡ None }
-    requires single { order.0 ≡ 0 }
     requires few { vec_len folios.old < 2 ^ 32 }
     requires of_home { AreOf (R.shown reach.old).anchor.home folios.old.items }
+    requires of_order { All (λ f. f.order ≡ order) folios.old.items }
     ensures goes { OnOk result (Goes (deed_at pool_no [] (Event.PoolGive order (first_frames folios.old.items)) Reply.Ok ∷ []) at.old at.new (R.shown reach.old) (R.shown reach.new)) }
     ensures given { OnOk result (folios.new.items ≡ []) }
     ensures sticks { IfErr result (λ stuck. Sticks at.old (turn pool_no (Event.PoolGive order (first_frames folios.old.items))) stuck (R.shown reach.old) (R.shown reach.new)) }

@@ -1,35 +1,36 @@
-//! The turns of the command `write`: the take of runs for the holes, and the write of the file, which is in hand
-//! meanwhile.
+//! The turns of the commands `write` and `fill`: the take of runs for the holes, and the write of the file, which is in
+//! hand meanwhile.
 
-ghost use Rattle.std.specs.Prelude.{◌≡◌, ◌≢◌, ℕ, ◌+◌, ◌<◌, ◌≤◌, ◌^◌, ◌∷◌, [], ◌||◌, ◌==◌, IfOk, IfErr, OnOk, OnErr, IsTrue, None, List, length, map, option_map};
+ghost use Rattle.std.specs.Prelude.{◌≡◌, ◌+◌, ◌<◌, ◌≤◌, ◌^◌, ◌∷◌, [], IfOk, IfErr, IsSome, OnOk, OnErr, None, length, map, option_map, List};
 ghost use Rattle.std.specs.Vec.{vec_len};
 ghost use Rattle.ho_base.specs.Objects.{pool_no, file_no};
-ghost use Rattle.ho_base.specs.declared.limits.TheConstants.{PAGE_BYTES};
-ghost use Rattle.ho_events.specs.File.{grows_frozen, touched_holes};
+ghost use Rattle.ho_events.specs.File.{touched_holes};
 ghost use Rattle.ho_base.specs.declared.numbers.Kind.TheVariants.{Memfd};
 ghost use Rattle.ho_world.specs.Acts.{Claim, IsFile};
 ghost use Rattle.ho_world.specs.Logs.{deed_at, AreClaimed};
 ghost use Rattle.ho_world.specs.Sequences.Files.{write_acts};
-ghost use Rattle.phys_frames.specs.Memory.{AreFills, AreOf, first_frames, zeroed};
+ghost use Rattle.phys_frames.specs.Memory.{AreOf, first_frames};
+ghost use Rattle.pool_frames.specs.PoolLending.{zeroed_run};
 ghost use Rattle.memfd_file.specs.FileValues.{FileIs};
-ghost use Rattle.memfd_file.specs.Files.{FileHas, facts_of, fills_left, fills_used, write_answer};
+ghost use Rattle.file_folios.specs.FileAnswers.{AreFillsOf, facts_of, fills_left, fills_used, wanted_indexes, write_answer};
+ghost use Rattle.memfd_file.specs.Files.{FileHas};
 ghost use Rattle.machine_core.specs.Agents.{Agent, begun, no_hands};
 ghost use Rattle.machine_core.specs.Turns.{IsReady, Goes};
-ghost use Rattle.luo_calls.specs.Memfds.{is_frozen_by, IsMemfd, IsPlainReply, TouchesHoles};
-ghost use Rattle.luo_calls.specs.Opened.{Holds, Opens, without};
+ghost use Rattle.luo_calls.specs.Memfds.{is_frozen_by, IsMemfd, IsPlainReply, TouchesHoles, wanted_runs};
+ghost use Rattle.luo_calls.specs.Opened.{Holds, without};
 ghost use Rattle.luo_calls.specs.Doing.{AreWhole, SticksAfter};
+ghost use Rattle.luo_calls.specs.Puts.{put_event, put_len, put_text};
 ghost use Rattle.luo_calls.specs.Stuck.{Sticks, turn};
 ghost use Rattle.luo_calls.specs.Wrote.{IsTaking, IsWrote, write_deeds};
 
-use crate::stuck::{Stopped, Stuck};
-use crate::turns::file::{broken_file, memfd_order};
-use crate::turns::open::open_file;
+use crate::stuck::{Stopped, Stuck, empty_handed};
+use crate::turns::memfd::open_memfd;
 use crate::turns::pool::take_runs;
+use crate::turns::put::{Put, put_into};
 use crate::turns::resume::{resume, under};
 use ho_base::Items;
-use ho_base::limits::FILES;
+use ho_base::limits::{FILE_BYTES, FILES};
 use ho_base::numbers::{FileNo, Kind, ObjectNo, Order, Pfn};
-use ho_events::event::Event;
 use ho_events::reply::Reply;
 use ho_events::slip::{At, Listed, Slip, Turned};
 use machine_core::{Halt, Object, Reach};
@@ -38,32 +39,8 @@ use phys_frames::folio::Folio;
 use std::alloc::Global;
 use std::snapshot::Snapshot;
 
-/// Takes a file that a label has, which is an open memfd of single frames, and tells its facts and its order.
-pub fn open_write<R: Reach>(
-    alloc: Global,
-    reach: &mut R,
-    at: At,
-    file: FileNo,
-) -> Result<(FileObject, Order), Stuck>
-    requires file { file.0 < FILES }
-    requires free { (R.shown reach.old).hands (file_no file.0) ≡ None }
-    ensures opens { IfOk result (λ t. Opens at (file_no file.0) (R.shown reach.old) (R.shown reach.new) (Object.File t.0)) }
-    ensures memfd { IfOk result (λ t. FileIs t.0 (λ s. IsMemfd (option_map facts_of s) t.1)) }
-    ensures sticks { IfErr result (λ stuck. (off : ℕ) (bytes : List ℕ) → Sticks at (turn (file_no file.0) (Event.FileWrite off bytes [])) stuck (R.shown reach.old) (R.shown reach.new)) }
-{
-    let (_, object) = open_file(alloc, reach, at, file, Listed::nothing())?;
-    let number = ObjectNo::of_file(file);
-    if !object.is_open() {
-        return Err(broken_file(number, object));
-    }
-    match memfd_order(object.facts()) {
-        Some(order) => Ok((object, order)),
-        None => Err(broken_file(number, object)),
-    }
-}
-
 /// Whether a write up to this end would change the size of a file that can't change; none is told where no file is there.
-fn is_frozen(facts: Option<Facts>, end: u32) -> bool
+fn is_frozen(facts: Option<Facts>, end: u64) -> bool
     ensures { result ≡ is_frozen_by facts end }
 {
     match facts {
@@ -73,9 +50,24 @@ fn is_frozen(facts: Option<Facts>, end: u32) -> bool
                 Kind::Memfd => false,
                 _ => true,
             };
-            facts.size < end && (facts.pin || facts.hold || device)
+            (facts.size as u64) < end && (facts.pin || facts.hold || device)
         }
     }
+}
+
+/// How many runs a write of a range wants for the holes that it touches: none where it is refused.
+fn runs_for(object: &FileObject, off: u32, len: u32) -> u32
+    requires present { FileIs object.now IsSome }
+    ensures { FileHas object.now (λ f. result ≡ wanted_runs f off len) }
+{
+    let end = off as u64 + len as u64;
+    if end > FILE_BYTES as u64 {
+        return 0;
+    }
+    if is_frozen(object.facts(), end) {
+        return 0;
+    }
+    object.holes(off, len)
 }
 
 /// Ends the turn of a file in hand with a write. What is known of the objects in hand may be read at this turn.
@@ -86,7 +78,7 @@ pub fn end_write<R: Reach>(
     file: FileNo,
     mut object: FileObject,
     off: u32,
-    bytes: &Items<u8>,
+    put: Put<'_>,
     fills: &mut Vec<Folio>,
 ) -> Reply
     requires ready { IsReady at.old (R.shown reach.old) }
@@ -96,20 +88,19 @@ pub fn end_write<R: Reach>(
     requires early { at.old.last < 2 ^ 63 }
     requires slip { slip.at ≡ at.old }
     requires log_room { 1 ≤ (R.shown reach.old).room }
-    requires present { FileIs object (λ s. s ≢ None) }
-    requires some { 0 < length bytes.now }
-    requires within { off + length bytes.now ≤ PAGE_BYTES }
-    requires fills { AreFills fills.old.items }
-    requires fills_home { AreOf (R.shown reach.old).anchor.home fills.old.items }
-    requires fills_count { 0 < vec_len fills.old → FileHas object (λ f. vec_len fills.old ≡ length (touched_holes f off (length bytes.now))) }
+    requires present { FileIs object IsSome }
+    requires some { 0 < put_len put }
+    requires indexes { FileHas object (λ f. wanted_indexes f (off + put_len put) ≤ object.indexes) }
+    requires fills { FileHas object (λ f. AreFillsOf (R.shown reach.old).anchor.home f.order fills.old.items) }
+    requires fills_count { 0 < vec_len fills.old → FileHas object (λ f. vec_len fills.old ≡ length (touched_holes f off (put_len put))) }
     requires slip_numbers { vec_len fills.old ≤ slip.room.event_numbers }
-    requires slip_bytes { length bytes.now ≤ slip.room.event_bytes }
-    ensures exact { FileHas object (λ f. result ≡ write_answer f off (length bytes.now) (vec_len fills.old)) }
+    requires slip_bytes { put_text put ≤ slip.room.event_bytes }
+    ensures exact { FileHas object (λ f. result ≡ write_answer f off (put_len put.entry) (vec_len fills.old)) }
     ensures fills { fills.new.items ≡ fills_left result fills.old.items }
-    ensures goes { (claims : List Claim) → AreClaimed (begun (R.shown reach.old)) (R.shown reach.old).hands claims → Goes (deed_at (file_no file.0) claims (Event.FileWrite off bytes.now (first_frames (fills_used result fills.old.items))) result ∷ []) at.old at.new (without (file_no file.0) (R.shown reach.old)) (R.shown reach.new) }
+    ensures goes { (claims : List Claim) → AreClaimed (begun (R.shown reach.old)) (R.shown reach.old).hands claims → Goes (deed_at (file_no file.0) claims (put_event put.entry off (first_frames (fills_used result fills.old.items))) result ∷ []) at.old at.new (without (file_no file.0) (R.shown reach.old)) (R.shown reach.new) }
 {
     let number = ObjectNo::of_file(file);
-    let Turned { entry, value } = object.write(slip, off, bytes.as_slice(), fills);
+    let Turned { entry, value } = put_into(&mut object, slip, off, put, fills);
     at.last = entry.stamp;
     reach.end(number, Object::File(object), Some(entry));
     value
@@ -126,7 +117,7 @@ pub enum Wrote {
     Filled(Order, Snapshot<Items<Pfn>>),
 }
 
-/// Writes the file in hand where no run is taken first: its size can't change as it must, or no hole is touched.
+/// Writes the file in hand where no run is taken first: the write is refused, or touches no hole.
 fn write_plain<R: Reach>(
     alloc: Global,
     reach: &mut R,
@@ -134,22 +125,23 @@ fn write_plain<R: Reach>(
     file: FileNo,
     object: FileObject,
     off: u32,
-    bytes: &Items<u8>,
+    put: Put<'_>,
 ) -> Result<Reply, Stuck>
     requires ready { IsReady at.old (R.shown reach.old) }
     requires file { file.0 < FILES }
     requires holds { Holds (file_no file.0) (R.shown reach.old) (Object.File object) }
     requires object_room { 1 ≤ object.room }
-    requires present { FileIs object (λ s. s ≢ None) }
-    requires some { 0 < length bytes.now }
-    requires within { off + length bytes.now ≤ PAGE_BYTES }
-    requires plain { FileHas object (λ f. IsTrue (grows_frozen f (off + length bytes.now) || length (touched_holes f off (length bytes.now)) == 0)) }
+    requires present { FileIs object IsSome }
+    requires some { 0 < put_len put }
+    requires few { put_len put < 2 ^ 32 }
+    requires indexes { FileHas object (λ f. wanted_indexes f (off + put_len put) ≤ object.indexes) }
+    requires plain { FileHas object (λ f. wanted_runs f off (put_len put) ≡ 0) }
     ensures reply { IfOk result IsPlainReply }
-    ensures goes { IfOk result (λ reply. Goes (deed_at (file_no file.0) [] (Event.FileWrite off bytes.now []) reply ∷ []) at.old at.new (without (file_no file.0) (R.shown reach.old)) (R.shown reach.new)) }
-    ensures sticks { IfErr result (λ stuck. Sticks at.old (turn (file_no file.0) (Event.FileWrite off bytes.now [])) stuck (without (file_no file.0) (R.shown reach.old)) (R.shown reach.new)) }
+    ensures goes { IfOk result (λ reply. Goes (deed_at (file_no file.0) [] (put_event put.entry off []) reply ∷ []) at.old at.new (without (file_no file.0) (R.shown reach.old)) (R.shown reach.new)) }
+    ensures sticks { IfErr result (λ stuck. Sticks at.old (turn (file_no file.0) (put_event put.entry off [])) stuck (without (file_no file.0) (R.shown reach.old)) (R.shown reach.new)) }
     ensures same_at { OnErr result (at.new ≡ at.old) }
 {
-    let slip = match resume(alloc, reach, *at, Listed::in_event(0, bytes.len() as u32)) {
+    let slip = match resume(alloc, reach, *at, Listed::in_event(0, put.text())) {
         Ok(slip) => slip,
         Err(stuck) => {
             let number = ObjectNo::of_file(file);
@@ -157,7 +149,7 @@ fn write_plain<R: Reach>(
         }
     };
     let mut fills = Vec::new(alloc);
-    let reply = end_write(reach, at, slip, file, object, off, bytes, &mut fills);
+    let reply = end_write(reach, at, slip, file, object, off, put, &mut fills);
     fills.destroy_empty();
     Ok(reply)
 }
@@ -171,7 +163,7 @@ fn write_starved<R: Reach>(
     object: FileObject,
     order: Order,
     off: u32,
-    bytes: &Items<u8>,
+    put: Put<'_>,
     holes: u32,
 ) -> Result<(), Stuck>
     requires ready { IsReady at.old (R.shown reach.old) }
@@ -179,15 +171,16 @@ fn write_starved<R: Reach>(
     requires holds { Holds (file_no file.0) (R.shown reach.old) (Object.File object) }
     requires object_room { 1 ≤ object.room }
     requires memfd { FileIs object (λ s. IsMemfd (option_map facts_of s) order) }
-    requires some { 0 < length bytes.now }
-    requires within { off + length bytes.now ≤ PAGE_BYTES }
-    requires touched { FileHas object (λ f. TouchesHoles f off (length bytes.now) holes) }
-    ensures goes { OnOk result (Goes (deed_at (file_no file.0) (IsFile file Memfd order ∷ []) (Event.FileWrite off bytes.now []) (Reply.NoFramesOf holes) ∷ []) at.old at.new (without (file_no file.0) (R.shown reach.old)) (R.shown reach.new)) }
-    ensures sticks { IfErr result (λ stuck. Sticks at.old (turn (file_no file.0) (Event.FileWrite off bytes.now [])) stuck (without (file_no file.0) (R.shown reach.old)) (R.shown reach.new)) }
+    requires some { 0 < put_len put }
+    requires few { put_len put < 2 ^ 32 }
+    requires indexes { FileHas object (λ f. wanted_indexes f (off + put_len put) ≤ object.indexes) }
+    requires touched { FileHas object (λ f. TouchesHoles f off (put_len put) holes) }
+    ensures goes { OnOk result (Goes (deed_at (file_no file.0) (IsFile file Memfd order ∷ []) (put_event put.entry off []) (Reply.NoFramesOf holes) ∷ []) at.old at.new (without (file_no file.0) (R.shown reach.old)) (R.shown reach.new)) }
+    ensures sticks { IfErr result (λ stuck. Sticks at.old (turn (file_no file.0) (put_event put.entry off [])) stuck (without (file_no file.0) (R.shown reach.old)) (R.shown reach.new)) }
     ensures same_at { OnErr result (at.new ≡ at.old) }
 {
     let _order = order;
-    let slip = match resume(alloc, reach, *at, Listed::in_event(0, bytes.len() as u32)) {
+    let slip = match resume(alloc, reach, *at, Listed::in_event(0, put.text())) {
         Ok(slip) => slip,
         Err(stuck) => {
             let number = ObjectNo::of_file(file);
@@ -195,7 +188,7 @@ fn write_starved<R: Reach>(
         }
     };
     let mut fills = Vec::new(alloc);
-    let _reply = end_write(reach, at, slip, file, object, off, bytes, &mut fills);
+    let _reply = end_write(reach, at, slip, file, object, off, put, &mut fills);
     fills.destroy_empty();
     Ok(())
 }
@@ -210,7 +203,7 @@ fn write_filled<R: Reach>(
     object: FileObject,
     order: Order,
     off: u32,
-    bytes: &Items<u8>,
+    put: Put<'_>,
     runs: Snapshot<Items<Pfn>>,
     mut fills: Vec<Folio>,
 ) -> Result<Wrote, Stopped>
@@ -219,18 +212,19 @@ fn write_filled<R: Reach>(
     requires holds { Holds (file_no file.0) (R.shown reach.old) (Object.File object) }
     requires object_room { 1 ≤ object.room }
     requires memfd { FileIs object (λ s. IsMemfd (option_map facts_of s) order) }
-    requires some { 0 < length bytes.now }
-    requires within { off + length bytes.now ≤ PAGE_BYTES }
-    requires touched { FileHas object (λ f. TouchesHoles f off (length bytes.now) (vec_len fills)) }
-    requires fills { fills.items ≡ map (zeroed (R.shown reach.old).anchor.home) runs.value }
-    requires few { vec_len fills < 2 ^ 32 }
-    ensures goes { OnOk result (Goes (deed_at (file_no file.0) (IsFile file Memfd order ∷ []) (Event.FileWrite off bytes.now runs.value) Reply.Ok ∷ []) at.old at.new (without (file_no file.0) (R.shown reach.old)) (R.shown reach.new)) }
+    requires some { 0 < put_len put }
+    requires few { put_len put < 2 ^ 32 }
+    requires indexes { FileHas object (λ f. wanted_indexes f (off + put_len put) ≤ object.indexes) }
+    requires touched { FileHas object (λ f. TouchesHoles f off (put_len put) (vec_len fills)) }
+    requires fills { fills.items ≡ map (zeroed_run (R.shown reach.old).anchor.home order) runs.value }
+    requires few_fills { vec_len fills < 2 ^ 32 }
+    ensures goes { OnOk result (Goes (deed_at (file_no file.0) (IsFile file Memfd order ∷ []) (put_event put.entry off runs.value) Reply.Ok ∷ []) at.old at.new (without (file_no file.0) (R.shown reach.old)) (R.shown reach.new)) }
     ensures wrote { IfOk result (λ w. w ≡ Wrote.Filled order runs) }
-    ensures sticks { IfErr result (λ s. Sticks at.old (turn (file_no file.0) (Event.FileWrite off bytes.now runs.value)) s.stuck (without (file_no file.0) (R.shown reach.old)) (R.shown reach.new)) }
+    ensures sticks { IfErr result (λ s. Sticks at.old (turn (file_no file.0) (put_event put.entry off runs.value)) s.stuck (without (file_no file.0) (R.shown reach.old)) (R.shown reach.new)) }
     ensures same_at { OnErr result (at.new ≡ at.old) }
     ensures given_up { IfErr result (λ s. AreOf (R.shown reach.old).anchor.home s.folios.items) }
 {
-    let listed = Listed::in_event(fills.len() as u32, bytes.len() as u32);
+    let listed = Listed::in_event(fills.len() as u32, put.text());
     let slip = match resume(alloc, reach, *at, listed) {
         Ok(slip) => slip,
         Err(stuck) => {
@@ -242,7 +236,7 @@ fn write_filled<R: Reach>(
             });
         }
     };
-    let _reply = end_write(reach, at, slip, file, object, off, bytes, &mut fills);
+    let _reply = end_write(reach, at, slip, file, object, off, put, &mut fills);
     fills.destroy_empty();
     Ok(Wrote::Filled(order, runs))
 }
@@ -256,7 +250,7 @@ fn write_taking<R: Reach>(
     object: FileObject,
     order: Order,
     off: u32,
-    bytes: &Items<u8>,
+    put: Put<'_>,
     holes: u32,
 ) -> Result<Wrote, Stopped>
     requires ready { IsReady at.old (R.shown reach.old) }
@@ -265,14 +259,14 @@ fn write_taking<R: Reach>(
     requires free { (R.shown reach.old).hands pool_no ≡ None }
     requires object_room { 1 ≤ object.room }
     requires memfd { FileIs object (λ s. IsMemfd (option_map facts_of s) order) }
-    requires single { order.0 ≡ 0 }
-    requires some { 0 < length bytes.now }
-    requires within { off + length bytes.now ≤ PAGE_BYTES }
-    requires touched { FileHas object (λ f. TouchesHoles f off (length bytes.now) holes) }
+    requires some { 0 < put_len put }
+    requires few { put_len put < 2 ^ 32 }
+    requires indexes { FileHas object (λ f. wanted_indexes f (off + put_len put) ≤ object.indexes) }
+    requires touched { FileHas object (λ f. TouchesHoles f off (put_len put) holes) }
     requires holes { 0 < holes }
-    ensures goes { IfOk result (λ w. Goes (write_deeds file off bytes.now w) at.old at.new (without (file_no file.0) (R.shown reach.old)) (R.shown reach.new)) }
+    ensures goes { IfOk result (λ w. Goes (write_deeds file (put_event put.entry off) w) at.old at.new (without (file_no file.0) (R.shown reach.old)) (R.shown reach.new)) }
     ensures takes { IfOk result (λ w. IsTaking order holes w) }
-    ensures stopped { IfErr result (λ s. SticksAfter (AreWhole (write_acts file off (length bytes.now) (λ fills. Event.FileWrite off bytes.now fills))) s.stuck at.old at.new (without (file_no file.0) (R.shown reach.old)) (R.shown reach.new)) }
+    ensures stopped { IfErr result (λ s. SticksAfter (AreWhole (write_acts file off (put_len put.entry) (put_event put.entry off))) s.stuck at.old at.new (without (file_no file.0) (R.shown reach.old)) (R.shown reach.new)) }
     ensures given_up { IfErr result (λ s. AreOf (R.shown reach.old).anchor.home s.folios.items) }
 {
     let number = ObjectNo::of_file(file);
@@ -296,12 +290,10 @@ fn write_taking<R: Reach>(
         }
     };
     match got {
-        Some(runs) => write_filled(
-            alloc, reach, at, file, object, order, off, bytes, runs, fills,
-        ),
+        Some(runs) => write_filled(alloc, reach, at, file, object, order, off, put, runs, fills),
         None => {
             fills.destroy_empty();
-            match write_starved(alloc, reach, at, file, object, order, off, bytes, holes) {
+            match write_starved(alloc, reach, at, file, object, order, off, put, holes) {
                 Ok(()) => Ok(Wrote::Starved(order, holes)),
                 Err(stuck) => Err(Stopped {
                     folios: Vec::new(alloc),
@@ -312,46 +304,39 @@ fn write_taking<R: Reach>(
     }
 }
 
-/// Writes bytes at an offset of a file that a label has. It takes runs for the holes that the bytes touch, all or none.
-/// It costs the bytes, and what a take of so many runs costs.
+/// Puts bytes at an offset of a file that a label has. It takes runs for the holes that the bytes touch, all or none.
+/// It costs the bytes, the indexes that they touch or that are new, and what a take of so many runs costs.
+#[tactic(auto, using(crate::proofs::FileHalts::memfd_present))]
 pub fn write_file<R: Reach>(
     alloc: Global,
     reach: &mut R,
     at: &mut At,
     file: FileNo,
     off: u32,
-    bytes: &Items<u8>,
+    put: Put<'_>,
 ) -> Result<Wrote, Stopped>
     requires ready { IsReady at.old (R.shown reach.old) }
     requires file { file.0 < FILES }
     requires free { (R.shown reach.old).hands ≡ no_hands }
-    requires some { 0 < length bytes.now }
-    requires within { off + length bytes.now ≤ PAGE_BYTES }
-    ensures goes { IfOk result (λ w. Goes (write_deeds file off bytes.now w) at.old at.new (R.shown reach.old) (R.shown reach.new)) }
-    ensures told { IfOk result (IsWrote off (length bytes.now)) }
-    ensures stopped { IfErr result (λ s. SticksAfter (AreWhole (write_acts file off (length bytes.now) (λ fills. Event.FileWrite off bytes.now fills))) s.stuck at.old at.new (R.shown reach.old) (R.shown reach.new)) }
+    requires some { 0 < put_len put }
+    requires few { put_len put < 2 ^ 32 }
+    ensures goes { IfOk result (λ w. Goes (write_deeds file (put_event put.entry off) w) at.old at.new (R.shown reach.old) (R.shown reach.new)) }
+    ensures told { IfOk result (IsWrote off (put_len put.entry)) }
+    ensures stopped { IfErr result (λ s. SticksAfter (AreWhole (write_acts file off (put_len put.entry) (put_event put.entry off))) s.stuck at.old at.new (R.shown reach.old) (R.shown reach.new)) }
     ensures given_up { IfErr result (λ s. AreOf (R.shown reach.old).anchor.home s.folios.items) }
 {
-    let (object, order) = match open_write(alloc, reach, *at, file) {
+    let len = put.len();
+    let (object, order) = match open_memfd(alloc, reach, *at, file, off, len) {
         Ok(opened) => opened,
-        Err(stuck) => {
-            return Err(Stopped {
-                folios: Vec::new(alloc),
-                stuck,
-            });
-        }
+        Err(stuck) => return Err(empty_handed(alloc, stuck)),
     };
-    let len = bytes.len() as u32;
-    let holes = object.holes(off, len);
-    if holes == 0 || is_frozen(object.facts(), off + len) {
-        match write_plain(alloc, reach, at, file, object, off, bytes) {
+    let wanted = runs_for(&object, off, len);
+    if wanted == 0 {
+        match write_plain(alloc, reach, at, file, object, off, put) {
             Ok(reply) => Ok(Wrote::Plain(reply)),
-            Err(stuck) => Err(Stopped {
-                folios: Vec::new(alloc),
-                stuck,
-            }),
+            Err(stuck) => Err(empty_handed(alloc, stuck)),
         }
     } else {
-        write_taking(alloc, reach, at, file, object, order, off, bytes, holes)
+        write_taking(alloc, reach, at, file, object, order, off, put, wanted)
     }
 }

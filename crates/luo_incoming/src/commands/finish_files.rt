@@ -1,6 +1,6 @@
 //! The files of an incoming session that ends: the part of each, one after another.
 
-ghost use Rattle.std.specs.Prelude.{◌≡◌, ◌<◌, ◌≤◌, ◌∷◌, [], IfErr, OnErr, OnOk, length};
+ghost use Rattle.std.specs.Prelude.{◌≡◌, ◌<◌, ◌^◌, ◌∷◌, [], IfErr, OnErr, OnOk, length};
 ghost use Rattle.ho_events.specs.Slips.{reply_runs};
 ghost use Rattle.phys_frames.specs.Memory.{AreOf};
 ghost use Rattle.session_core.specs.SessionShown.{AreFiles};
@@ -19,8 +19,8 @@ use ho_events::reply::Reply;
 use ho_events::slip::At;
 use luo_calls::commands::close_files::{Kept, give_any};
 use luo_calls::turns::registry::free_file;
-use luo_calls::{Stopped, Stuck, empty_handed};
-use machine_core::{Halt, Reach};
+use luo_calls::{Stopped, Stuck};
+use machine_core::Reach;
 use phys_frames::folio::Folio;
 use std::alloc::Global;
 
@@ -37,9 +37,8 @@ fn finish_gone<R: Reach>(
     requires ready { IsReady at.old (R.shown reach.old) }
     requires free { HasFree (R.shown reach.old) }
     requires file { file.0 < FILES }
-    requires single { order.0 ≡ 0 }
-    requires few { length runs.now ≤ 1 }
-    requires given { IsGivenUp (R.shown reach.old).anchor.home (Reply.Gone runs.now) given.old.items }
+    requires few { length runs.now < 2 ^ 32 }
+    requires given { IsGivenUp (R.shown reach.old).anchor.home order (Reply.Gone runs.now) given.old.items }
     ensures goes { OnOk result (Goes (deeds (after_finish file order (Reply.Gone runs.now))) at.old at.new (R.shown reach.old) (R.shown reach.new)) }
     ensures given { OnOk result (given.new.items ≡ []) }
     ensures sticks { IfErr result (λ stuck. SticksAfter (λ ds. ds ≡ deeds (after_finish file order (Reply.Gone runs.now))) stuck at.old at.new (R.shown reach.old) (R.shown reach.new)) }
@@ -63,10 +62,9 @@ fn finish_rest<R: Reach>(
     requires ready { IsReady at.old (R.shown reach.old) }
     requires free { HasFree (R.shown reach.old) }
     requires file { file.0 < FILES }
-    requires single { order.0 ≡ 0 }
     requires reply { IsFinishReply reply }
-    requires few { length (reply_runs reply) ≤ 1 }
-    requires given { IsGivenUp (R.shown reach.old).anchor.home reply given.old.items }
+    requires few { length (reply_runs reply) < 2 ^ 32 }
+    requires given { IsGivenUp (R.shown reach.old).anchor.home order reply given.old.items }
     ensures goes { OnOk result (Goes (deeds (after_finish file order reply)) at.old at.new (R.shown reach.old) (R.shown reach.new)) }
     ensures given { OnOk result (given.new.items ≡ []) }
     ensures sticks { IfErr result (λ stuck. SticksAfter (λ ds. ds ≡ deeds (after_finish file order reply)) stuck at.old at.new (R.shown reach.old) (R.shown reach.new)) }
@@ -93,13 +91,7 @@ fn finish_file<R: Reach>(
     ensures stopped { IfErr result (λ s. SticksAfter (AreFinishesOf (kept ∷ [])) s.stuck at.old at.new (R.shown reach.old) (R.shown reach.new)) }
     ensures given_up { IfErr result (λ s. AreOf (R.shown reach.old).anchor.home s.folios.items) }
 {
-    let Ok(mut given) = Vec::with_capacity(alloc, 1) else {
-        let stuck = Stuck {
-            halt: Halt::Memory,
-            held: None,
-        };
-        return Err(empty_handed(alloc, stuck));
-    };
+    let mut given = Vec::new(alloc);
     let (order, reply) = match file::finish_file(alloc, reach, at, kept.1, &mut given) {
         Ok(ended) => ended,
         Err(stuck) => {

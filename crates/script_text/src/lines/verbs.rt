@@ -104,22 +104,5 @@ fn session_verb(word: &[u8]) -> Option<Verb>
 pub fn is_unbuilt_verb(verb: Verb) -> bool
     ensures { result ≡ unbuilt_rule verb }
 {
-    match verb {
-        Verb::Machine
-        | Verb::Scratch
-        | Verb::Round
-        | Verb::Agent
-        | Verb::Kexec
-        | Verb::Memfd
-        | Verb::Write
-        | Verb::Read
-        | Verb::CloseFd
-        | Verb::Create
-        | Verb::Preserve
-        | Verb::Close
-        | Verb::Open
-        | Verb::Retrieve
-        | Verb::Finish => false,
-        _ => true,
-    }
+    matches!(verb, Verb::Fail | Verb::Device)
 }

@@ -9,14 +9,14 @@ pub invariant_of-result : goal.invariant_of-result
 invariant_of-result c =
     let was : length c.args.slots.items ≡ vec_len c.args.slots = omega (arith, c.args.slots.ok) in
     let long : length c.clear_past.new.slots.items ≡ length c.args.slots.items = omega (arith, c.args.slots.ok, c.clear_past.new.slots.ok, c.clear_past.ensures.count) in
-    held_keeps c.args.home c.args.order c.args.size c.args.slots.items c.clear_past.new.slots.items c.requires.slots (was ∙ c.requires.count) c.requires.small c.requires.within
-    (subst (λ p. AreSlots c.args.home c.args.order p c.clear_past.new.slots.items) c.piece_of.ensures.value c.clear_past.ensures.slots) long
+    held_keeps c.args.home.value c.args.order c.args.size c.args.slots.items c.clear_past.new.slots.items c.requires.slots (was ∙ c.requires.count) c.requires.small c.requires.within
+    (subst (λ p. AreSlots c.args.home.value c.args.order p c.clear_past.new.slots.items) c.piece_of.ensures.value c.clear_past.ensures.slots) long
     (subst (λ p. all_bytes p c.clear_past.new.slots.items ≡ extended (length c.args.slots.items * p) (take c.args.size (all_bytes p c.args.slots.items))) c.piece_of.ensures.value c.clear_past.ensures.bytes)
 
 pub returns-clause-state : goal.returns-clause-state
 returns-clause-state c =
     let was : length c.args.slots.items ≡ vec_len c.args.slots = omega (arith, c.args.slots.ok) in
     held_same c.args.kind c.args.order c.args.size c.args.position c.args.slots.items c.clear_past.new.slots.items
-    (held_bytes c.args.home c.args.order c.args.size c.args.slots.items c.clear_past.new.slots.items c.requires.slots (was ∙ c.requires.count)
+    (held_bytes c.args.home.value c.args.order c.args.size c.args.slots.items c.clear_past.new.slots.items c.requires.slots (was ∙ c.requires.count)
     (subst (λ p. all_bytes p c.clear_past.new.slots.items ≡ extended (length c.args.slots.items * p) (take c.args.size (all_bytes p c.args.slots.items))) c.piece_of.ensures.value c.clear_past.ensures.bytes))
     c.clear_past.ensures.runs

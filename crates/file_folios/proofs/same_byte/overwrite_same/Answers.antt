@@ -21,8 +21,8 @@ returns-clause-holds c =
     let was : length c.args.slots.now.items ≡ vec_len c.args.slots.now = omega (arith, c.args.slots.now.ok) in
     let same : length (replicate c.args.len c.args.byte) ≡ c.args.len = length-replicate c.args.len c.args.byte in
     let long : length c.set_range.new.slots.items ≡ length c.grow.new.slots.items = omega (arith, c.set_range.new.slots.ok, c.grow.new.slots.ok, c.set_range.ensures.count, c.fill_holes.ensures.count) in
-    subst (λ n. HoldsBytes c.args.home.now c.args.order c.args.piece (max c.args.size (c.args.off + n)) c.set_range.new.slots.items) same
-    (overwrite_holds c.args.home.now c.args.order c.args.piece c.requires.some c.args.size c.args.slots.now.items c.requires.holds
+    subst (λ n. HoldsBytes c.args.home.now.value c.args.order c.args.piece (max c.args.size (c.args.off + n)) c.set_range.new.slots.items) same
+    (overwrite_holds c.args.home.now.value c.args.order c.args.piece c.requires.some c.args.size c.args.slots.now.items c.requires.holds
     c.args.off c.pieces_of.result (replicate c.args.len c.args.byte) c.grow.new.slots.items c.fill_holes.new.slots.items c.set_range.new.slots.items (c.pieces_of.result - vec_len c.args.slots.now)
     (ap (λ n. c.pieces_of.result - n) (sym was)) (c.pieces_of.ensures ∙ ap (λ n. pieces n c.args.piece) (c.max.ensures ∙ ap (λ n. max c.args.size (c.args.off + n)) (sym same))) c.grow.ensures.items c.fill_holes.ensures.bytes long
     c.set_range.ensures.slots c.set_range.ensures.bytes)
@@ -33,7 +33,7 @@ returns-clause-bytes c =
     let same : length (replicate c.args.len c.args.byte) ≡ c.args.len = length-replicate c.args.len c.args.byte in
     let long : length c.set_range.new.slots.items ≡ length c.grow.new.slots.items = omega (arith, c.set_range.new.slots.ok, c.grow.new.slots.ok, c.set_range.ensures.count, c.fill_holes.ensures.count) in
     subst (λ n. bytes_of c.args.piece (max c.args.size (c.args.off + n)) c.set_range.new.slots.items ≡ overwritten c.args.off (replicate c.args.len c.args.byte) (bytes_of c.args.piece c.args.size c.args.slots.now.items)) same
-    (overwrite_bytes c.args.home.now c.args.order c.args.piece c.requires.some c.args.size c.args.slots.now.items c.requires.holds
+    (overwrite_bytes c.args.home.now.value c.args.order c.args.piece c.requires.some c.args.size c.args.slots.now.items c.requires.holds
     c.args.off c.pieces_of.result (replicate c.args.len c.args.byte) c.grow.new.slots.items c.fill_holes.new.slots.items c.set_range.new.slots.items (c.pieces_of.result - vec_len c.args.slots.now)
     (ap (λ n. c.pieces_of.result - n) (sym was)) (c.pieces_of.ensures ∙ ap (λ n. pieces n c.args.piece) (c.max.ensures ∙ ap (λ n. max c.args.size (c.args.off + n)) (sym same))) c.grow.ensures.items c.fill_holes.ensures.bytes long
     c.set_range.ensures.slots c.set_range.ensures.bytes)

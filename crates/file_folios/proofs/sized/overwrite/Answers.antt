@@ -19,7 +19,7 @@ pub returns-clause-holds : goal.returns-clause-holds
 returns-clause-holds c =
     let was : length c.args.slots.now.items ≡ vec_len c.args.slots.now = omega (arith, c.args.slots.now.ok) in
     let long : length c.write_range.new.slots.items ≡ length c.grow.new.slots.items = omega (arith, c.write_range.new.slots.ok, c.grow.new.slots.ok, c.write_range.ensures.count, c.fill_holes.ensures.count) in
-    overwrite_holds c.args.home.now c.args.order c.args.piece c.requires.some c.args.size c.args.slots.now.items c.requires.holds
+    overwrite_holds c.args.home.now.value c.args.order c.args.piece c.requires.some c.args.size c.args.slots.now.items c.requires.holds
     c.args.off c.pieces_of.result c.args.bytes.now c.grow.new.slots.items c.fill_holes.new.slots.items c.write_range.new.slots.items (c.pieces_of.result - vec_len c.args.slots.now)
     (ap (λ n. c.pieces_of.result - n) (sym was)) (c.pieces_of.ensures ∙ ap (λ n. pieces n c.args.piece) c.max.ensures) c.grow.ensures.items c.fill_holes.ensures.bytes long
     c.write_range.ensures.slots c.write_range.ensures.bytes
@@ -28,7 +28,7 @@ pub returns-clause-bytes : goal.returns-clause-bytes
 returns-clause-bytes c =
     let was : length c.args.slots.now.items ≡ vec_len c.args.slots.now = omega (arith, c.args.slots.now.ok) in
     let long : length c.write_range.new.slots.items ≡ length c.grow.new.slots.items = omega (arith, c.write_range.new.slots.ok, c.grow.new.slots.ok, c.write_range.ensures.count, c.fill_holes.ensures.count) in
-    overwrite_bytes c.args.home.now c.args.order c.args.piece c.requires.some c.args.size c.args.slots.now.items c.requires.holds
+    overwrite_bytes c.args.home.now.value c.args.order c.args.piece c.requires.some c.args.size c.args.slots.now.items c.requires.holds
     c.args.off c.pieces_of.result c.args.bytes.now c.grow.new.slots.items c.fill_holes.new.slots.items c.write_range.new.slots.items (c.pieces_of.result - vec_len c.args.slots.now)
     (ap (λ n. c.pieces_of.result - n) (sym was)) (c.pieces_of.ensures ∙ ap (λ n. pieces n c.args.piece) c.max.ensures) c.grow.ensures.items c.fill_holes.ensures.bytes long
     c.write_range.ensures.slots c.write_range.ensures.bytes

@@ -11,13 +11,13 @@ use Rattle.file_folios.proofs.sized.resize.Goals as goal
 pub returns-then-to-size-clause-holds : goal.returns-then-to-size-clause-holds
 returns-then-to-size-clause-holds c =
     let was : length c.args.slots.now.items ≡ vec_len c.args.slots.now = omega (arith, c.args.slots.now.ok) in
-    more_holds c.args.home.now c.args.order c.args.piece c.requires.some c.args.size c.args.slots.now.items c.requires.holds c.args.to c.pieces_of-count.result (c.pieces_of-count.result - vec_len c.args.slots.now)
+    more_holds c.args.home.now.value c.args.order c.args.piece c.requires.some c.args.size c.args.slots.now.items c.requires.holds c.args.to c.pieces_of-count.result (c.pieces_of-count.result - vec_len c.args.slots.now)
     (omega arith) c.pieces_of-count.ensures (ap (λ n. c.pieces_of-count.result - n) (sym was)) c.grow.new.slots.items c.grow.ensures.items
 
 pub returns-then-to-size-clause-bytes : goal.returns-then-to-size-clause-bytes
 returns-then-to-size-clause-bytes c =
     let was : length c.args.slots.now.items ≡ vec_len c.args.slots.now = omega (arith, c.args.slots.now.ok) in
-    more_bytes c.args.home.now c.args.order c.args.piece c.requires.some c.args.size c.args.slots.now.items c.requires.holds c.args.to c.pieces_of-count.result (c.pieces_of-count.result - vec_len c.args.slots.now)
+    more_bytes c.args.home.now.value c.args.order c.args.piece c.requires.some c.args.size c.args.slots.now.items c.requires.holds c.args.to c.pieces_of-count.result (c.pieces_of-count.result - vec_len c.args.slots.now)
     (omega arith) c.pieces_of-count.ensures (ap (λ n. c.pieces_of-count.result - n) (sym was)) c.grow.new.slots.items c.grow.ensures.items
 
 pub returns-then-to-size-clause-left : goal.returns-then-to-size-clause-left
@@ -39,11 +39,11 @@ returns-then-to-size-clause-given c =
 pub returns-else-to-size-clause-holds : goal.returns-else-to-size-clause-holds
 returns-else-to-size-clause-holds c =
     let long : length c.clear_past.new.slots.items ≡ length c.cut.new.slots.items = omega (arith, c.clear_past.new.slots.ok, c.cut.new.slots.ok, c.clear_past.ensures.count) in
-    less_holds c.args.home.now c.args.order c.args.piece c.requires.some c.args.size c.args.slots.now.items c.requires.holds c.args.to c.pieces_of-count.result
+    less_holds c.args.home.now.value c.args.order c.args.piece c.requires.some c.args.size c.args.slots.now.items c.requires.holds c.args.to c.pieces_of-count.result
     (omega arith) c.pieces_of-count.ensures c.cut.new.slots.items c.clear_past.new.slots.items c.cut.ensures.slots long c.clear_past.ensures.slots c.clear_past.ensures.bytes
 
 pub returns-else-to-size-clause-bytes : goal.returns-else-to-size-clause-bytes
 returns-else-to-size-clause-bytes c =
     let long : length c.clear_past.new.slots.items ≡ length c.cut.new.slots.items = omega (arith, c.clear_past.new.slots.ok, c.cut.new.slots.ok, c.clear_past.ensures.count) in
-    less_bytes c.args.home.now c.args.order c.args.piece c.requires.some c.args.size c.args.slots.now.items c.requires.holds c.args.to c.pieces_of-count.result
+    less_bytes c.args.home.now.value c.args.order c.args.piece c.requires.some c.args.size c.args.slots.now.items c.requires.holds c.args.to c.pieces_of-count.result
     (omega arith) c.pieces_of-count.ensures c.cut.new.slots.items c.clear_past.new.slots.items c.cut.ensures.slots long c.clear_past.ensures.slots c.clear_past.ensures.bytes

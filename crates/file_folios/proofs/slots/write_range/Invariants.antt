@@ -3,7 +3,7 @@ use Rattle.file_folios.proofs.Writing.{Writing}
 use Rattle.file_folios.proofs.slots.write_range.Given as goal
 
 abbrev pub invariant-loop-done : goal.invariant-loop-done
-invariant-loop-done l = Writing l.fn.home l.fn.order l.fn.piece l.fn.off l.fn.bytes l.fn.slots.items l.done l.slots.items × (vec_capacity l.slots ≡ vec_capacity l.fn.slots)
+invariant-loop-done l = Writing l.fn.home.value l.fn.order l.fn.piece l.fn.off l.fn.bytes l.fn.slots.items l.done l.slots.items × (vec_capacity l.slots ≡ vec_capacity l.fn.slots)
 
 abbrev pub decreases-loop-done : goal.decreases-loop-done
 decreases-loop-done l = l.len - l.done

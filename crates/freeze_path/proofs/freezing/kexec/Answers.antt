@@ -1,7 +1,7 @@
 use Rattle.std.proofs.Common.{◌∙◌, sym, ap}
 use Rattle.ho_base.specs.declared.numbers.Pfn.{Pfn}
 use Rattle.phys_frames.specs.Memory.{FolioValue}
-use Rattle.freeze_path.proofs.Handing.{first_of, hands_on, one_page, same_shape}
+use Rattle.freeze_path.proofs.Handing.{first_of, hands_on, memfds, same_shape}
 use Rattle.freeze_path.proofs.freezing.kexec.Goals as goal
 
 pub returns-clause-carries : goal.returns-clause-carries
@@ -11,5 +11,5 @@ returns-clause-carries c = λ w of. hands_on c.args.kernel c.args.frozen c.gathe
 pub returns-clause-same_shape : goal.returns-clause-same_shape
 returns-clause-same_shape c = λ w of. same_shape c.args.kernel c.args.frozen c.gather-frames.result w c.requires.made of c.gather-frames.ensures.count c.gather-frames.ensures.files
 
-pub returns-clause-one_page : goal.returns-clause-one_page
-returns-clause-one_page c = λ w of. one_page c.args.kernel c.args.frozen c.gather-frames.result w c.requires.made of c.gather-frames.ensures.count c.gather-frames.ensures.files
+pub returns-clause-memfds : goal.returns-clause-memfds
+returns-clause-memfds c = λ w of. memfds c.args.kernel c.args.frozen c.gather-frames.result w c.requires.made of c.gather-frames.ensures.count c.gather-frames.ensures.files

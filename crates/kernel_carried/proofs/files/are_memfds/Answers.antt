@@ -7,4 +7,4 @@ use Rattle.kernel_carried.proofs.files.are_memfds.Goals as goal
 pub loop-file-preserved : goal.loop-file-preserved
 loop-file-preserved c =
     one_below (λ n. IsMemfdIn (states_in c.args.kernel.now.objects (file_no n))) c.loop-file.file c.loop-file.invariant
-    (memfd_in c.args.kernel.now.objects c.loop-file.file _ _ c.file.ensures.at c.page-page.ensures)
+    (memfd_in c.args.kernel.now.objects c.loop-file.file _ c.file.ensures.at c.facts-facts.ensures.memfd)

@@ -8,7 +8,7 @@ use Rattle.kexec_boot.proofs.boots.boot.Goals as goal
 pub begin-requires-clause-can : goal.begin-requires-clause-can
 begin-requires-clause-can c =
     c.law_of_following.ensures (ram_of c.load.new.frames) c.args.handoff.entry.0 (state_in (ram_of c.load.new.frames) c.in-Ok.carried)
-    (ap (λ (s : Layout). s.frames) c.in-Ok.ensures.shape ∙ c.args.handoff.fits ∙ sym c.load.ensures.count) c.in-Ok.ensures.pages c.in-Ok.ensures.carries
+    (ap (λ (s : Layout). s.frames) c.in-Ok.ensures.shape ∙ c.args.handoff.fits ∙ sym c.load.ensures.count) c.hold_pages.ensures c.in-Ok.ensures.memfds c.in-Ok.ensures.carries
 
 pub returns-in-Ok-clause-next : goal.returns-in-Ok-clause-next
 returns-in-Ok-clause-next c =

@@ -1,23 +1,17 @@
-use Rattle.std.proofs.Common.{◌∙◌}
-use Rattle.kexec_boot.proofs.HeldSteps.{few_of, home_of, order_of, single_of, held_with}
+use Rattle.std.proofs.Common.{◌≡◌, ◌≤◌, ap, sym, subst, ◌∙◌}
+use Rattle.std.specs.Prelude.{IfOk}
+use Rattle.ho_base.specs.declared.limits.TheConstants.{FILE_BYTES}
+use Rattle.kexec_boot.proofs.HeldSteps.{held_with, size_is}
 use Rattle.kexec_boot.proofs.holding.hold_one.Goals as goal
 
-pub room_in-room-requires-clause-few : goal.room_in-room-requires-clause-few
-room_in-room-requires-clause-few c = few_of c.args.taken.now.value c.args.file.page c.args.list.items c.requires.list
+pub held-requires-clause-within : goal.held-requires-clause-within
+held-requires-clause-within c =
+    subst (λ n. n ≤ FILE_BYTES) (sym (size_is c.args.home c.args.file c.args.folios.items c.requires.fits c.requires.long c.size_of.result c.size_of.ensures)) c.requires.fits.within
 
-pub room_in-room-requires-clause-single : goal.room_in-room-requires-clause-single
-room_in-room-requires-clause-single c = single_of c.args.taken.now.value c.args.file.page c.args.list.items c.requires.list
-
-pub held-requires-clause-few : goal.held-requires-clause-few
-held-requires-clause-few c = few_of c.args.taken.now.value c.args.file.page c.args.list.items c.requires.list
-
-pub held-requires-clause-of_home : goal.held-requires-clause-of_home
-held-requires-clause-of_home c = home_of c.args.taken.now.value c.args.file.page c.args.home c.args.list.items c.requires.home c.requires.list
-
-pub held-requires-clause-of_order : goal.held-requires-clause-of_order
-held-requires-clause-of_order c = order_of c.args.taken.now.value c.args.file.page c.args.list.items c.requires.list
+pub held-requires-clause-position : goal.held-requires-clause-position
+held-requires-clause-position c =
+    subst (λ n. c.args.file.position ≤ n) (sym (size_is c.args.home c.args.file c.args.folios.items c.requires.fits c.requires.long c.size_of.result c.size_of.ensures)) c.requires.fits.position
 
 pub returns-clause-start : goal.returns-clause-start
 returns-clause-start c =
-    c.held.ensures.start
-    ∙ held_with c.args.taken.now.value c.args.file c.min.result c.room_in-room.result c.args.list.items c.min.ensures c.requires.list c.room_in-room.ensures.bytes
+    subst (λ s. IfOk c.held.result (λ f. f.start ≡ s)) (held_with c.args.home c.args.file c.args.folios.items c.requires.fits c.requires.long c.size_of.result c.size_of.ensures) c.held.ensures.start

@@ -1,6 +1,6 @@
 use Rattle.std.proofs.Common.{[]}
 use Rattle.kexec_boot.proofs.Adding.{Added}
-use Rattle.kexec_boot.proofs.PageSteps.{one_name}
+use Rattle.kexec_boot.proofs.FileSteps.{one_name}
 use Rattle.kexec_boot.proofs.prepared.names_of.Given as goal
 
 abbrev pub invariant-loop-session : goal.invariant-loop-session

@@ -1,5 +1,6 @@
 use Rattle.std.proofs.Common.{length, get_or, ap, ◌+◌, ◌∙◌}
-use Rattle.memfd_file.proofs.Pages.{overwritten_within, overwritten_before, overwritten_after, overwritten_length}
+use Rattle.file_folios.proofs.Extended.{overwritten_length}
+use Rattle.memfd_file.proofs.Overwriting.{overwritten_within, overwritten_before, overwritten_after}
 use Rattle.memfd_file.proofs.FileSteps.{bytes_after}
 use Rattle.memfd_file.proofs.laws.law_of_writing.Goals as goal
 

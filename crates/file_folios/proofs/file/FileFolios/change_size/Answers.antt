@@ -34,7 +34,7 @@ pub returns-clause-given : goal.returns-clause-given
 returns-clause-given c =
     let piece : pieces c.args.size (index_bytes c.args.self.now.state) ≡ pieces c.args.size c.piece_of-piece.result = ap (λ v. pieces c.args.size (PAGE_BYTES * 2 ^ v.state.order)) (sym c.self.view_is) ∙ ap (pieces c.args.size) (sym c.piece_of-piece.ensures.value) in
     c.resize.ensures.given
-    ∙ ap (λ fs. c.args.given.now.items ++ fs) (cut_folios_are c.self.inside.home c.self.inside.order c.self.inside.size c.self.inside.slots.items c.self.invariant c.args.self.now.state
+    ∙ ap (λ fs. c.args.given.now.items ++ fs) (cut_folios_are c.self.inside.home.value c.self.inside.order c.self.inside.size c.self.inside.slots.items c.self.invariant c.args.self.now.state
     (ap (λ v. v.state.order) (sym c.self.view_is)) (ap (λ v. v.state.bytes) (sym c.self.view_is)) c.args.size (pieces c.args.size c.piece_of-piece.result) (ap (λ v. v.state.runs) (sym c.self.view_is)) piece)
     ∙ ap (λ h. c.args.given.now.items ++ cut_folios c.args.self.now.state h c.args.size) (ap (λ v. v.home) c.self.view_is)
 
@@ -49,7 +49,7 @@ returns-clause-state c =
 pub resize-requires-clause-room : goal.resize-requires-clause-room
 resize-requires-clause-room c =
     let by_view = subst (λ v. more_indexes v.state c.args.size ≤ v.room) (sym c.self.view_is) c.requires.room in
-    let long = state_long c.self.inside.home c.self.inside.order c.self.inside.size c.self.inside.slots.items c.self.invariant in
+    let long = state_long c.self.inside.home.value c.self.inside.order c.self.inside.size c.self.inside.slots.items c.self.invariant in
     let by_size : pieces (max c.self.inside.size c.args.size) (piece_bytes c.self.inside.order) - pieces c.self.inside.size (piece_bytes c.self.inside.order) ≤ vec_capacity c.self.inside.slots - vec_len c.self.inside.slots =
     subst (λ n. pieces (max n c.args.size) (piece_bytes c.self.inside.order) - pieces n (piece_bytes c.self.inside.order) ≤ vec_capacity c.self.inside.slots - vec_len c.self.inside.slots) long by_view in
     let rise : pieces c.args.size (piece_bytes c.self.inside.order) ≤ pieces (max c.self.inside.size c.args.size) (piece_bytes c.self.inside.order) = pieces_rise c.args.size (max c.self.inside.size c.args.size) (piece_bytes c.self.inside.order) (piece_some c.self.inside.order) (omega arith) in

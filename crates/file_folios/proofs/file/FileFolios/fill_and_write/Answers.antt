@@ -10,7 +10,7 @@ use Rattle.file_folios.proofs.file.FileFolios.fill_and_write.Goals as goal
 
 pub overwrite-requires-clause-blank : goal.overwrite-requires-clause-blank
 overwrite-requires-clause-blank c =
-    subst (λ p. AreBlank c.self.inside.home c.self.inside.order p c.args.fills.now.items) (sym c.piece_of-piece.ensures.value)
+    subst (λ p. AreBlank c.self.inside.home.value c.self.inside.order p c.args.fills.now.items) (sym c.piece_of-piece.ensures.value)
     (subst (λ v. AreFillsOf v.home v.state.order c.args.fills.now.items) (sym c.self.view_is) c.requires.fills)
 
 pub overwrite-requires-clause-holes : goal.overwrite-requires-clause-holes

@@ -25,6 +25,6 @@ returns-clause-runs c =
 pub returns-clause-given : goal.returns-clause-given
 returns-clause-given c =
     c.cut.ensures.given
-    ∙ ap (λ fs. c.args.given.now.items ++ fs) (folios_are c.self.inside.home c.self.inside.order c.self.inside.size c.self.inside.slots.items c.self.invariant c.args.self.state
+    ∙ ap (λ fs. c.args.given.now.items ++ fs) (folios_are c.self.inside.home.value c.self.inside.order c.self.inside.size c.self.inside.slots.items c.self.invariant c.args.self.state
     (ap (λ v. v.state.order) (sym c.self.view_is)) (ap (λ v. v.state.bytes) (sym c.self.view_is)) (ap (λ v. v.state.runs) (sym c.self.view_is)))
     ∙ ap (λ h. c.args.given.now.items ++ folios_of c.args.self.state h) (ap (λ v. v.home) c.self.view_is)

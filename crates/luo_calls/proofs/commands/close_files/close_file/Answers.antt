@@ -1,4 +1,4 @@
-use Rattle.luo_calls.proofs.Closes.{plain_unpin, part_whole, plain_whole, closed_one, no_memory}
+use Rattle.luo_calls.proofs.Closes.{plain_unpin, part_whole, plain_whole, closed_one}
 use Rattle.ho_world.specs.Logs.{deed_at}
 use Rattle.ho_world.specs.Acts.{IsFile}
 use Rattle.ho_events.specs.declared.event.Event.TheVariants.{FileUnpin}
@@ -9,21 +9,17 @@ use Rattle.luo_calls.proofs.Chains.{ready_after}
 use Rattle.luo_calls.proofs.Nested.{sticks_first, sticks_later}
 use Rattle.luo_calls.proofs.commands.close_files.close_file.Goals as goal
 
-pub returns-in_default-clause-stopped : goal.returns-in_default-clause-stopped
-returns-in_default-clause-stopped g c =
-    no_memory (plain_unpin c.args.kept) (plain_whole c.args.kept) _ _ _ c.empty_handed.ensures.stuck
-
 pub returns-in-Err-clause-stopped : goal.returns-in-Err-clause-stopped
 returns-in-Err-clause-stopped g c =
     sticks_first (plain_unpin c.args.kept) (plain_whole c.args.kept) _ _ _ _ _ c.in-Err.ensures.same_at c.in-Err.ensures.sticks
 
 pub close_rest-requires-clause-ready : goal.close_rest-requires-clause-ready
-close_rest-requires-clause-ready g c = ready_after _ _ _ _ _ c.requires.ready c.in-Ok-unpin.ensures.goes
+close_rest-requires-clause-ready g c = ready_after _ _ _ _ _ c.requires.ready c.in-Ok.ensures.goes
 
 pub returns-in-Ok-close_rest-clause-closed : goal.returns-in-Ok-close_rest-clause-closed
 returns-in-Ok-close_rest-clause-closed g c =
-    closed_one c.args.kept c.in-Ok-unpin.unpinned.0 c.in-Ok-unpin.unpinned.1 _ _ _ _ _ _ c.in-Ok-unpin.ensures.reply c.in-Ok-unpin.ensures.goes c.in-Ok-close_rest.ensures.goes
+    closed_one c.args.kept c.in-Ok.unpinned.0 c.in-Ok.unpinned.1 _ _ _ _ _ _ c.in-Ok.ensures.reply c.in-Ok.ensures.goes c.in-Ok-close_rest.ensures.goes
 
 pub returns-in-Err-close_rest-clause-stopped : goal.returns-in-Err-close_rest-clause-stopped
 returns-in-Err-close_rest-clause-stopped g c =
-    sticks_later (deed_at (file_no c.args.kept.1.0) (IsFile c.args.kept.1 Memfd c.in-Ok-unpin.unpinned.0 ∷ []) FileUnpin c.in-Ok-unpin.unpinned.1 ∷ []) (part_whole c.args.kept c.in-Ok-unpin.unpinned.0 c.in-Ok-unpin.unpinned.1 c.in-Ok-unpin.ensures.reply) _ _ _ _ _ _ _ c.in-Ok-unpin.ensures.goes c.in-Err-close_rest.ensures.sticks
+    sticks_later (deed_at (file_no c.args.kept.1.0) (IsFile c.args.kept.1 Memfd c.in-Ok.unpinned.0 ∷ []) FileUnpin c.in-Ok.unpinned.1 ∷ []) (part_whole c.args.kept c.in-Ok.unpinned.0 c.in-Ok.unpinned.1 c.in-Ok.ensures.reply) _ _ _ _ _ _ _ c.in-Ok.ensures.goes c.in-Err-close_rest.ensures.sticks

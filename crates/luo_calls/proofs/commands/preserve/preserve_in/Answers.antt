@@ -1,48 +1,39 @@
-use Rattle.luo_calls.specs.Preserved.{added}
-use Rattle.ho_world.specs.Logs.{end_with}
-use Rattle.std.proofs.Common.{[], ◌∷◌, ◌++◌, refl, ap}
-use Rattle.luo_calls.proofs.Sticking.{sticks_any}
-use Rattle.luo_calls.proofs.Preserves.{refused_whole, outer_comes, outer_stops, refused_answer}
-use Rattle.ho_events.specs.declared.reply.Reply.TheVariants.{NoSession}
-use Rattle.std.proofs.lemmas.Result.{err_from_is_err_and}
+use Rattle.std.proofs.Common.{[], ◌∷◌, ◌++◌, refl, ap, sym, subst}
 use Rattle.ho_base.specs.Objects.{session_no}
+use Rattle.ho_events.specs.declared.reply.Reply.TheVariants.{NoSession}
+use Rattle.ho_world.specs.Logs.{end_with}
+use Rattle.ho_world.specs.Sequences.Preserving.{preserve_acts}
+use Rattle.luo_calls.specs.Doing.{AreRest, SticksAfter, slot_found}
+use Rattle.luo_calls.specs.Preserved.{added}
+use Rattle.luo_calls.specs.declared.stuck.Stuck.{Stuck}
 use Rattle.luo_calls.proofs.Nested as nested
+use Rattle.luo_calls.proofs.Preserves.{outer_comes, outer_stops, refused_answer, refused_whole}
+use Rattle.luo_calls.proofs.Sticking.{sticks_any}
 use Rattle.luo_calls.proofs.commands.preserve.preserve_in.Goals as goal
-use Rattle.luo_calls.proofs.commands.preserve.preserve_in.Goals.{in-None, in-Some+in_ok-reply-in-Some}
 
-pub returns-in_err-held-clause-sticks : goal.returns-in_err-held-clause-sticks
-returns-in_err-held-clause-sticks g c =
-    let p = err_from_is_err_and c.from_residual.result c.from_residual.ensures.1 in rw (p.1, p.2)
-    (nested.sticks_first (added c.args.slot c.args.name c.args.token c.args.file NoSession ++ end_with NoSession ∷ []) (refused_whole c.args.name c.args.token c.args.file c.args.slot NoSession refl) _ _ _ _ _ refl (sticks_any _ _ _ _ _ c.in_err-held.ensures.sticks))
+pub returns-in-Err-clause-stopped : goal.returns-in-Err-clause-stopped
+returns-in-Err-clause-stopped g c =
+    subst (λ (s : Stuck). SticksAfter (AreRest (preserve_acts c.args.name c.args.token c.args.file) (slot_found c.args.name c.args.slot)) s c.args.at.now c.args.at.now (g.R.Reach.shown c.args.reach.now) (g.R.Reach.shown c.open_session.new.reach)) (sym c.empty_handed.ensures.stuck)
+    (nested.sticks_first (added c.args.slot c.args.name c.args.token c.args.file NoSession ++ end_with NoSession ∷ []) (refused_whole c.args.name c.args.token c.args.file c.args.slot NoSession refl) _ _ _ _ _ refl (sticks_any _ _ _ _ _ c.in-Err.ensures.sticks))
 
-pub returns-in_err-reply-in-Some-clause-sticks : goal.returns-in_err-reply-in-Some-clause-sticks
-returns-in_err-reply-in-Some-clause-sticks g c =
-    let p = err_from_is_err_and c.from_residual-in_err-reply-in-Some.result c.from_residual-in_err-reply-in-Some.ensures.1 in rw (p.1, p.2)
-    (nested.outer_sticks _ _ _ (session_no c.args.slot.0) _ (g.R.Reach.shown c.open_session.new.reach) _ _ c.in_ok-held.ensures.opens (ap (λ f. f (session_no c.args.slot.0)) c.requires.free)
-    (nested.sticks_first (added c.args.slot c.args.name c.args.token c.args.file NoSession ++ end_with NoSession ∷ []) (refused_whole c.args.name c.args.token c.args.file c.args.slot NoSession refl) _ _ _ _ _ c.in_err-reply-in-Some.ensures.same_at c.in_err-reply-in-Some.ensures.sticks))
+pub returns-in-None-clause-goes : goal.returns-in-None-clause-goes
+returns-in-None-clause-goes g c =
+    outer_comes c.args.slot c.args.name c.args.token c.args.file (session_no c.args.slot.0) _ _ _ (g.R.Reach.shown c.open_session.new.reach) _ _ c.pin_and_add.result c.in-Ok.ensures.opens (ap (λ h. h (session_no c.args.slot.0)) c.requires.free) c.pin_and_add.ensures.goes
 
-pub returns-clause-goes : goal.returns-clause-goes
-returns-clause-goes g c =
-    let n = session_no c.args.slot.0 in let a1 = g.R.Reach.shown c.open_session.new.reach in let free = ap (λ f. f (session_no c.args.slot.0)) c.requires.free in
-    elim c.match-admits.branch [
-      | in-None w ↦ rw (w.reach-is, w.at-is, w.result-is)
-          (outer_comes c.args.slot c.args.name c.args.token c.args.file n _ _ _ a1 _ _ w.pin_and_add.result c.in_ok-held.ensures.opens free w.pin_and_add.ensures.goes)
-      | in-Some+in_ok-reply-in-Some w ↦ rw (w.reach-is, w.at-is, w.result-is)
-          (nested.outer_goes _ _ _ n _ a1 _ _ c.in_ok-held.ensures.opens free w.in_ok-reply-in-Some.ensures.goes)
-    ]
+pub returns-in-None-clause-stopped : goal.returns-in-None-clause-stopped
+returns-in-None-clause-stopped g c =
+    outer_stops _ (session_no c.args.slot.0) _ _ _ (g.R.Reach.shown c.open_session.new.reach) _ _ c.pin_and_add.result c.in-Ok.ensures.opens (ap (λ h. h (session_no c.args.slot.0)) c.requires.free) c.pin_and_add.ensures.stopped
 
-pub returns-clause-told : goal.returns-clause-told
-returns-clause-told g c = elim c.match-admits.branch [
-  | in-None w ↦ rw w.result-is w.pin_and_add.ensures.told
-  | in-Some+in_ok-reply-in-Some w ↦ rw w.result-is
-      (refused_answer _ c.args.name c.args.token.0 c.admits.result _ _ w.in-Some.is c.admits.ensures.refusal w.in_ok-reply-in-Some.ensures.answer)
-]
+pub returns-in-Ok-add-clause-goes : goal.returns-in-Ok-add-clause-goes
+returns-in-Ok-add-clause-goes g c =
+    nested.outer_goes _ _ _ (session_no c.args.slot.0) _ (g.R.Reach.shown c.open_session.new.reach) _ _ c.in-Ok.ensures.opens (ap (λ h. h (session_no c.args.slot.0)) c.requires.free) c.in-Ok-add.ensures.goes
 
-pub returns-clause-sticks : goal.returns-clause-sticks
-returns-clause-sticks g c =
-    let n = session_no c.args.slot.0 in let a1 = g.R.Reach.shown c.open_session.new.reach in let free = ap (λ f. f (session_no c.args.slot.0)) c.requires.free in
-    elim c.match-admits.branch [
-      | in-None w ↦ rw (w.reach-is, w.at-is, w.result-is)
-          (outer_stops _ n _ _ _ a1 _ _ w.pin_and_add.result c.in_ok-held.ensures.opens free w.pin_and_add.ensures.sticks)
-      | in-Some+in_ok-reply-in-Some w ↦ rw w.result-is tt
-    ]
+pub returns-in-Ok-add-clause-told : goal.returns-in-Ok-add-clause-told
+returns-in-Ok-add-clause-told g c =
+    refused_answer _ c.args.name c.args.token.0 c.admits.result _ _ c.in-Some.is c.admits.ensures.refusal c.in-Ok-add.ensures.answer
+
+pub returns-clause-stopped : goal.returns-clause-stopped
+returns-clause-stopped g c =
+    subst (λ (s : Stuck). SticksAfter (AreRest (preserve_acts c.args.name c.args.token c.args.file) (slot_found c.args.name c.args.slot)) s c.args.at.now c.add.new.at (g.R.Reach.shown c.args.reach.now) (g.R.Reach.shown c.add.new.reach)) (sym c.empty_handed-in-Err-add.ensures.stuck)
+    (nested.outer_sticks _ _ _ (session_no c.args.slot.0) _ (g.R.Reach.shown c.open_session.new.reach) _ _ c.in-Ok.ensures.opens (ap (λ h. h (session_no c.args.slot.0)) c.requires.free)
+    (nested.sticks_first (added c.args.slot c.args.name c.args.token c.args.file NoSession ++ end_with NoSession ∷ []) (refused_whole c.args.name c.args.token c.args.file c.args.slot NoSession refl) _ _ _ _ _ c.in-Err-add.ensures.same_at c.in-Err-add.ensures.sticks))

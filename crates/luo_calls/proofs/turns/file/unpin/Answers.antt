@@ -1,36 +1,30 @@
-use Rattle.luo_calls.proofs.Sticking.{sticks_any}
-use Rattle.std.proofs.lemmas.Result.{err_from_is_err_and}
-use Rattle.std.proofs.Common.{refl, [], ◌∷◌, inl, inr, sym, subst, ap}
+use Rattle.std.proofs.Common.{[], ◌∷◌}
+use Rattle.ho_base.specs.Objects.{file_no}
 use Rattle.ho_base.specs.declared.numbers.Kind.TheVariants.{Memfd}
-use Rattle.ho_events.specs.declared.event.Event.TheVariants.{FileUnpin}
 use Rattle.ho_world.specs.Acts.{IsFile}
-use Rattle.luo_calls.proofs.Cannot.{file_cannot}
-use Rattle.luo_calls.proofs.FileHalts.{broken_file_sticks, cannot_unpin, is_shut, is_other, file_claimed}
+use Rattle.luo_calls.proofs.FileHalts.{memfd_claimed}
 use Rattle.luo_calls.proofs.FileReplies.{given_says}
 use Rattle.luo_calls.proofs.KindTurns as kinds
+use Rattle.luo_calls.proofs.Nested as nested
 use Rattle.luo_calls.proofs.Steps.{has}
 use Rattle.luo_calls.proofs.turns.file.unpin.Goals as goal
 
-pub returns-then-not-is_pinned-clause-sticks : goal.returns-then-not-is_pinned-clause-sticks
-returns-then-not-is_pinned-clause-sticks g c =
-    broken_file_sticks _ _ _ _ _ c.in_ok-slip.object FileUnpin _ c.of_file-number.ensures c.requires.free c.in_ok-slip.ensures.opens
-    (inl (file_cannot c.in_ok-slip.object FileUnpin (cannot_unpin _ _ c.if-not-is_pinned.true c.is_pinned.ensures) c.args.at.now _))
-    c.broken_file.ensures.halt c.broken_file.ensures.held
+pub returns-in-Err-clause-sticks : goal.returns-in-Err-clause-sticks
+returns-in-Err-clause-sticks g c =
+    nested.stuck_back _ c.args.at.now _ _ _ (file_no c.args.file.0) (g.R.Reach.shown c.args.reach.now) (g.R.Reach.shown c.open_pinned.new.reach) _ _ _ c.of_file-number.ensures c.under.ensures.stuck c.in_ok-object.ensures.opens c.requires.free c.in-Err.ensures.sticks c.under.ensures.ended
 
 pub end-requires : goal.end-requires
 end-requires g c =
     let t = c.unpin-entry.ensures in
-    kinds.file_can_at _ _ _ _ _ _ [] _ _ _ c.in_ok-slip.ensures.opens c.requires.free _ c.in_ok-slip.ensures.at t.told _ c.of_file-number.ensures c.requires.ready t.kept t.number t.start t.home t.run
+    let opens = nested.opens_room c.args.at.now (file_no c.args.file.0) (g.R.Reach.shown c.args.reach.now) (g.R.Reach.shown c.open_pinned.new.reach) (g.R.Reach.shown c.resume_giving.new.reach) _ c.in_ok-object.ensures.opens c.in-Ok.ensures.kept c.in-Ok.ensures.room in
+    kinds.file_can_at _ _ _ _ _ _ [] _ _ _ opens c.requires.free _ c.in-Ok.ensures.at t.told _ c.of_file-number.ensures c.requires.ready t.kept t.number t.start t.home t.run
 
 pub returns-clause-given : goal.returns-clause-given
 returns-clause-given g c =
-    given_says _ _ _ _ _ _ c.in_ok-slip.ensures.opens.found.machine c.requires.empty c.unpin-entry.ensures.exact c.unpin-entry.ensures.given
+    given_says _ _ _ _ _ _ _ c.in_ok-object.ensures.opens.found.machine c.in-Ok.ensures.empty c.in_ok-object.ensures.memfd c.unpin-entry.ensures.exact c.unpin-entry.ensures.given
 
 pub returns-clause-goes : goal.returns-clause-goes
 returns-clause-goes g c =
-    kinds.file_turned_at _ _ _ _ _ c.unpin-entry.new.self (IsFile c.args.file Memfd c.in-Some.order ∷ []) _ _ _ c.in_ok-slip.ensures.opens c.requires.free _ c.in_ok-slip.ensures.at c.unpin-entry.ensures.told _ c.of_file-number.ensures _
-    (file_claimed (g.R.Reach.shown c.args.reach.now) (g.R.Reach.shown c.open_file.new.reach).hands c.args.file c.in_ok-slip.object _ c.in-Some.order (has _ _ _ _ _ c.in_ok-slip.ensures.opens) c.in-Some.ensures c.facts.ensures.exact) c.end.ensures
-
-pub returns-in_err-slip-clause-sticks : goal.returns-in_err-slip-clause-sticks
-returns-in_err-slip-clause-sticks g c =
-    let p = err_from_is_err_and c.from_residual.result c.from_residual.ensures.1 in rw (p.1, p.2) (sticks_any _ _ _ _ _ c.in_err-slip.ensures.sticks)
+    let opens = nested.opens_room c.args.at.now (file_no c.args.file.0) (g.R.Reach.shown c.args.reach.now) (g.R.Reach.shown c.open_pinned.new.reach) (g.R.Reach.shown c.resume_giving.new.reach) _ c.in_ok-object.ensures.opens c.in-Ok.ensures.kept c.in-Ok.ensures.room in
+    kinds.file_turned_at _ _ _ _ _ c.unpin-entry.new.self (IsFile c.args.file Memfd c.in_ok-object.order ∷ []) _ _ _ opens c.requires.free _ c.in-Ok.ensures.at c.unpin-entry.ensures.told _ c.of_file-number.ensures _
+    ((memfd_claimed (g.R.Reach.shown c.args.reach.now) (g.R.Reach.shown c.resume_giving.new.reach).hands c.args.file c.in_ok-object.object c.in_ok-object.order (has _ _ _ _ _ opens) c.in_ok-object.ensures.memfd)) c.end.ensures

@@ -2,18 +2,16 @@ use Rattle.std.proofs.Common.{refl, []}
 use Rattle.ho_base.specs.Objects.{file_no}
 use Rattle.luo_calls.proofs.KindTurns as kinds
 use Rattle.luo_calls.proofs.Nested as nested
-use Rattle.luo_calls.proofs.WriteTurns.{same_write}
 use Rattle.luo_calls.proofs.turns.write.end_write.Goals as goal
 
 pub end-requires : goal.end-requires
 end-requires g c =
-    let t = c.write-entry.ensures in let a = g.R.Reach.shown c.args.reach.now in let n = file_no c.args.file.0 in
+    let t = c.put_into-entry.ensures in let a = g.R.Reach.shown c.args.reach.now in let n = file_no c.args.file.0 in
     kinds.file_can_at _ _ _ _ _ _ [] _ _ _ (nested.reopens c.args.at.now n a a _ c.requires.holds refl c.requires.early c.requires.object_room c.requires.log_room)
     (nested.free_without n a) _ c.requires.slip t.told _ c.of_file-number.ensures (nested.ready_without n c.args.at.now a c.requires.ready) t.kept t.number t.start t.home t.run
 
 pub returns-clause-goes : goal.returns-clause-goes
 returns-clause-goes g c claims known =
     let a = g.R.Reach.shown c.args.reach.now in let n = file_no c.args.file.0 in
-    same_write _ _ claims _ _ _ _ _ _ _ _ _ _ c.as_slice.ensures refl refl
-    (kinds.file_turned_at _ _ _ _ _ c.write-entry.new.self claims _ _ _ (nested.reopens c.args.at.now n a a _ c.requires.holds refl c.requires.early c.requires.object_room c.requires.log_room)
-    (nested.free_without n a) _ c.requires.slip c.write-entry.ensures.told _ c.of_file-number.ensures _ known c.end.ensures)
+    kinds.file_turned_at _ _ _ _ _ c.put_into-entry.new.object claims _ _ _ (nested.reopens c.args.at.now n a a _ c.requires.holds refl c.requires.early c.requires.object_room c.requires.log_room)
+    (nested.free_without n a) _ c.requires.slip c.put_into-entry.ensures.told _ c.of_file-number.ensures _ known c.end.ensures

@@ -8,7 +8,7 @@ use Rattle.luo_calls.proofs.FileHalts.{broken_file_sticks, memfd_claimed}
 use Rattle.luo_calls.proofs.KindTurns as kinds
 use Rattle.luo_calls.proofs.Steps.{has}
 use Rattle.luo_calls.proofs.Sticking.{sticks_any}
-use Rattle.luo_incoming.proofs.Files.{cannot_open_held, told_memfd, waits}
+use Rattle.luo_incoming.proofs.Files.{cannot_open_held, waits}
 use Rattle.luo_incoming.proofs.turns.file.open_held.Goals as goal
 
 pub returns-then-not-is_unopened-clause-sticks : goal.returns-then-not-is_unopened-clause-sticks
@@ -29,7 +29,7 @@ pub returns-clause-goes : goal.returns-clause-goes
 returns-clause-goes g c =
     kinds.file_turned_at _ _ _ _ _ c.open_held-entry.new.self (IsFile c.args.file Memfd c.order_of-order.result ∷ []) _ _ _ c.in_ok-slip.ensures.opens c.requires.free _ c.in_ok-slip.ensures.at c.open_held-entry.ensures.told _ c.of_file-number.ensures _
     (memfd_claimed (g.R.Reach.shown c.args.reach.now) (g.R.Reach.shown c.open_file.new.reach).hands c.args.file c.in_ok-slip.object c.order_of-order.result (has _ _ _ _ _ c.in_ok-slip.ensures.opens)
-    (told_memfd _ _ _ c.order_of-order.ensures.single c.order_of-order.ensures.plain (waits _ _ _ c.if-not-is_unopened.false c.is_unopened.ensures c.facts.ensures.exact))) c.end.ensures
+    c.order_of-order.ensures) c.end.ensures
 
 pub returns-in_err-slip-clause-sticks : goal.returns-in_err-slip-clause-sticks
 returns-in_err-slip-clause-sticks g c =

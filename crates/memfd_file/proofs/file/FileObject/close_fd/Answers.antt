@@ -1,23 +1,42 @@
-use Rattle.std.proofs.Common.{◌≡◌, ◌++◌, rules}
-use Rattle.std.specs.Option.{MatchOption}
+use Rattle.std.proofs.Common.{◌≤◌, length, subst, sym, refl, arith}
+use Rattle.ho_events.specs.File.{runs_of}
+use Rattle.ho_events.specs.Slips.{reply_runs}
 use Rattle.ho_events.specs.declared.event.Event.TheVariants.{FileCloseFd}
-use Rattle.memfd_file.specs.Files.{given_up}
-use Rattle.memfd_file.specs.FileShown.{content_shown, shown}
-use Rattle.memfd_file.proofs.FileSteps.{turn_noted, turn_ran, some_run}
+use Rattle.memfd_file.specs.Files.{FileHas, IsCloseFdAnswer}
+use Rattle.memfd_file.specs.FileShown.{shown}
+use Rattle.memfd_file.proofs.FileSteps.{turn_noted, keeps_run}
+use Rattle.memfd_file.proofs.Told.{IsFew, room_for, reply_room_for, has_shown, few_by, close_few}
 use Rattle.memfd_file.proofs.file.FileObject.close_fd.Goals as goal
 
+pub append_turn-requires-clause-copy : goal.append_turn-requires-clause-copy
+append_turn-requires-clause-copy c =
+    room_for FileCloseFd c.close_fd-reply.result c.args.slip.room c.open-own.result.2 c.open-own.ensures.copy (omega arith) refl
+    (few_by c.self.inside.file (λ f. length (runs_of f)) (λ f. IsCloseFdAnswer f c.close_fd-reply.result) c.args.slip.room.reply_numbers c.close_fd-reply.result
+    (has_shown (shown c.self.inside.start.value) c.self.inside.history.items c.self.inside.home c.self.inside.file (λ f. length (runs_of f) ≤ c.args.slip.room.reply_numbers) c.self.invariant
+    (subst (λ v. FileHas v (λ f. length (runs_of f) ≤ c.args.slip.room.reply_numbers)) (sym c.self.view_is) c.requires.slip_numbers))
+    c.close_fd-reply.ensures.answer (λ f. close_few f c.close_fd-reply.result))
+
+pub append_turn-requires-clause-value : goal.append_turn-requires-clause-value
+append_turn-requires-clause-value c =
+    reply_room_for c.close_fd-reply.result c.args.slip.room c.open-own.result.3 c.open-own.ensures.value
+    (few_by c.self.inside.file (λ f. length (runs_of f)) (λ f. IsCloseFdAnswer f c.close_fd-reply.result) c.args.slip.room.reply_numbers c.close_fd-reply.result
+    (has_shown (shown c.self.inside.start.value) c.self.inside.history.items c.self.inside.home c.self.inside.file (λ f. length (runs_of f) ≤ c.args.slip.room.reply_numbers) c.self.invariant
+    (subst (λ v. FileHas v (λ f. length (runs_of f) ≤ c.args.slip.room.reply_numbers)) (sym c.self.view_is) c.requires.slip_numbers))
+    c.close_fd-reply.ensures.answer (λ f. close_few f c.close_fd-reply.result))
+
 pub invariant_of-self : goal.invariant_of-self
-invariant_of-self c = turn_noted (shown c.self.inside.start.value) c.self.inside.history.items c.append_turn.new.history.items c.append_turn.result.entry c.self.inside.home c.self.inside.content c.close_fd-reply.new.content
-    FileCloseFd c.close_fd-reply.result _ _ _ c.self.invariant c.append_turn.ensures.kept c.append_turn.ensures.told c.close_fd-reply.ensures.step c.close_fd-reply.ensures.sound
-    (c.close_fd-reply.ensures.home c.self.inside.home c.self.invariant.at_home)
+invariant_of-self c =
+    turn_noted (shown c.self.inside.start.value) c.self.inside.history.items c.append_turn.new.history.items c.append_turn.result.entry c.self.inside.home c.self.inside.file c.close_fd-reply.new.file
+    FileCloseFd c.close_fd-reply.result _ _ _ c.self.invariant c.append_turn.ensures.kept c.append_turn.ensures.told c.close_fd-reply.ensures.step (c.close_fd-reply.ensures.kept c.self.inside.home c.self.invariant.kept)
+
+pub returns-clause-few : goal.returns-clause-few
+returns-clause-few c =
+    let few : IsFew c.args.slip.room.reply_numbers c.close_fd-reply.result =
+    few_by c.self.inside.file (λ f. length (runs_of f)) (λ f. IsCloseFdAnswer f c.close_fd-reply.result) c.args.slip.room.reply_numbers c.close_fd-reply.result
+    (has_shown (shown c.self.inside.start.value) c.self.inside.history.items c.self.inside.home c.self.inside.file (λ f. length (runs_of f) ≤ c.args.slip.room.reply_numbers) c.self.invariant
+    (subst (λ v. FileHas v (λ f. length (runs_of f) ≤ c.args.slip.room.reply_numbers)) (sym c.self.view_is) c.requires.slip_numbers))
+    c.close_fd-reply.ensures.answer (λ f. close_few f c.close_fd-reply.result) in
+    subst (λ r. length (reply_runs r) ≤ c.args.slip.room.reply_numbers) (sym c.append_turn.ensures.value) few.runs
 
 pub returns-clause-run : goal.returns-clause-run
-returns-clause-run c = some_run (shown c.self.inside.start.value) c.append_turn.new.history.items (shown c.close_fd-reply.new.content)
-    (turn_ran (shown c.self.inside.start.value) c.self.inside.history.items c.append_turn.new.history.items c.append_turn.result.entry c.self.inside.home c.self.inside.content
-    FileCloseFd c.close_fd-reply.result _ _ _ (shown c.close_fd-reply.new.content) c.self.invariant c.append_turn.ensures.kept c.append_turn.ensures.told c.close_fd-reply.ensures.step)
-
-pub returns-clause-given : goal.returns-clause-given
-returns-clause-given c =
-    let g : MatchOption c.self.inside.content ⊥ (λ d. c.close_fd-reply.new.given.items ≡ c.args.given.now.items ++ given_up c.self.inside.home (content_shown d) c.close_fd-reply.result)
-    = c.close_fd-reply.ensures.given c.self.inside.home c.self.invariant.at_home in
-    search rules
+returns-clause-run c = keeps_run (shown c.self.inside.start.value) c.append_turn.new.history.items c.self.inside.home c.close_fd-reply.new.file (invariant_of-self c)

@@ -4,17 +4,17 @@ use Rattle.ho_events.specs.Lists.{firsts}
 use Rattle.ho_events.specs.Pool.{can_unmark}
 use Rattle.ho_events.specs.declared.event.Event.TheVariants.{PoolUnmark}
 use Rattle.pool_core.specs.PoolValues.{PoolValue, PoolIs}
-use Rattle.pool_core.proofs.PoolRuns.{unmark_keeps, keeps_is_run}
+use Rattle.pool_core.proofs.PoolRuns.{unmark_keeps, keeps_is_run, told_of}
 use Rattle.pool_core.proofs.pool.Pool.unmark.Goals as goal
 
 pub invariant_of-self : goal.invariant_of-self
 invariant_of-self c =
     let P : PoolValue → Type 0 = λ p. PoolIs p (λ s. IsTrue (can_unmark s c.args.order.0 (firsts c.args.runs.now))) in
     let listed : c.from_vec.result ≡ c.args.runs.now = grind (arith, common_steps) in
-    unmark_keeps c.self.inside.table c.unmark_all.new.self c.self.inside.start.value c.self.inside.history.items c.append_turn-entry.new.history.items c.append_turn-entry.result.entry c.args.order c.args.runs.now
-    c.requires.single c.self.invariant
+    unmark_keeps c.self.inside.frames c.unmark.new.self c.self.inside.start.value.state c.self.inside.history.items c.append_turn-entry.new.history.items c.append_turn-entry.result.entry c.args.order c.args.runs.now
+    c.self.invariant
     (ap (λ e. e.event) c.append_turn-entry.ensures.told ∙ ap (PoolUnmark c.args.order) listed) (ap (λ e. e.reply) c.append_turn-entry.ensures.told) c.append_turn-entry.ensures.kept
-    c.unmark_all.ensures (subst P (sym c.self.view_is) c.requires.legal)
+    (told_of _ _ _ (λ s. IsTrue (can_unmark s c.args.order.0 (firsts c.args.runs.now))) c.self.invariant (subst P (sym c.self.view_is) c.requires.legal)) c.unmark.ensures
 
 pub returns-clause-run : goal.returns-clause-run
 returns-clause-run c = keeps_is_run _ _ _ (invariant_of-self c)

@@ -1,0 +1,1 @@
+use Rattle.kexec_boot.proofs.holding.hold_next.Goals as goal

@@ -1,7 +1,0 @@
-use Rattle.ho_events.specs.declared.command.Command.TheVariants as command
-use Rattle.luo_calls.proofs.Sticking.{halts_after}
-use Rattle.luo_calls.proofs.commands.read.read.Goals as goal
-
-pub returns-in-Err-clause-halts : goal.returns-in-Err-clause-halts
-returns-in-Err-clause-halts g c =
-    halts_after c.args.labels.now.bound (command.Read c.args.label c.args.off c.args.len) _ _ _ _ _ _ _ c.in-Err.ensures.sticks c.release.ensures.halt c.release.ensures.released
