@@ -191,8 +191,8 @@ cold_stands shape blocks = record {
 
 -- the commands that are built make memfds alone
 built_memfds : (c : Command) → IsTrue (is_built c) → IsTrue (makes_memfds c)
-built_memfds (command.Memfd label o) h = and_left _ _ (and_left _ _ h)
-built_memfds (command.Device label kind size) h = and_right (is_said (word_of (command.Device label kind size)) (line.Command (command.Device label kind size))) false (and_left _ _ h)
+built_memfds (command.Memfd label o) h = and_left _ _ h
+built_memfds (command.Device label kind size) h = and_right (is_said (word_of (command.Device label kind size)) (line.Command (command.Device label kind size))) false h
 built_memfds (command.Write label off bytes) h = refl
 built_memfds (command.Fill label off len byte) h = refl
 built_memfds (command.Read label off len) h = refl

@@ -1,30 +1,41 @@
-use Rattle.luo_calls.proofs.Ended.{comes_at, halts_at, none_of}
+use Rattle.std.proofs.Common.{refl}
+use Rattle.std.specs.Prelude as result
+use Rattle.luo_calls.proofs.Ended.{came_bare, came_full}
+use Rattle.luo_calls.specs.declared.commands.command.Outcome.TheVariants.{Halted}
 use Rattle.luo_incoming.proofs.Others.{others}
 use Rattle.luo_incoming.proofs.commands.command.do_command.Goals as goal
 
 pub returns-in-Ok : goal.returns-in-Ok
 returns-in-Ok g c = record {
-  came = comes_at c.args.labels.now.bound _ _ _ _ _ _ _ c.in-Open.is (c.in-Ok.ensures.comes c.args.labels.now.bound);
+  came = came_bare c.args.labels.now.bound _ _ _ _ _ _ _ c.in-Open.is (result.Ok c.in-Ok.reply) _ (c.in-Ok.ensures.comes c.args.labels.now.bound) tt refl tt;
 }
 
 pub returns-in-Err : goal.returns-in-Err
 returns-in-Err g c = record {
-  came = (c.open.new.at, (halts_at _ _ _ _ _ _ _ _ _ c.in-Open.is (c.in-Err.ensures.halts c.args.labels.now.bound), none_of _ _ c.new.ensures.items));
+  came =
+      came_bare c.args.labels.now.bound _ _ _ _ _ _ _ c.in-Open.is (result.Err c.in-Err.halt) (Halted c.new.result c.in-Err.halt) tt
+      (c.in-Err.ensures.halts c.args.labels.now.bound) tt (refl, c.new.ensures.items);
 }
 
 pub returns-in-Err-retrieve : goal.returns-in-Err-retrieve
 returns-in-Err-retrieve g c = record {
-  came = (c.retrieve.new.at, (halts_at _ _ _ _ _ _ _ _ _ c.in-Retrieve.is c.in-Err-retrieve.ensures.halts, none_of _ _ c.new-in-Err-retrieve.ensures.items));
+  came =
+      came_bare _ _ _ _ _ _ _ _ c.in-Retrieve.is (result.Err c.in-Err-retrieve.halt) (Halted c.new-in-Err-retrieve.result c.in-Err-retrieve.halt) tt
+      c.in-Err-retrieve.ensures.halts tt (refl, c.new-in-Err-retrieve.ensures.items);
 }
 
 pub returns-in-Ok-finish : goal.returns-in-Ok-finish
 returns-in-Ok-finish g c = record {
-  came = comes_at c.args.labels.now.bound _ _ _ _ _ _ _ c.in-Finish.is (c.in-Ok-finish.ensures.comes c.args.labels.now.bound);
+  came =
+      came_full c.args.labels.now.bound _ _ _ _ _ _ _ c.in-Finish.is (result.Ok c.in-Ok-finish.reply) _
+      (c.in-Ok-finish.ensures.comes c.args.labels.now.bound) tt tt refl tt;
 }
 
 pub returns-in-Err-finish : goal.returns-in-Err-finish
 returns-in-Err-finish g c = record {
-  came = (c.finish.new.at, (halts_at _ _ _ _ _ _ _ _ _ c.in-Finish.is (c.in-Err-finish.ensures.halts c.args.labels.now.bound), c.in-Err-finish.ensures.given_up));
+  came =
+      came_full c.args.labels.now.bound _ _ _ _ _ _ _ c.in-Finish.is (result.Err (c.in-Err-finish.folios, c.in-Err-finish.halt)) _ tt
+      (c.in-Err-finish.ensures.halts c.args.labels.now.bound) c.in-Err-finish.ensures.given_up tt refl;
 }
 
 pub do_command-requires-clause-here : goal.do_command-requires-clause-here
