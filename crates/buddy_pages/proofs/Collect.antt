@@ -5,7 +5,6 @@ use Rattle.std.proofs.lemmas.Bool.{cases_lt, cases_eq, false≢true}
 use Rattle.std.proofs.lemmas.List.{length_push, append_assoc, append-nil, drop_at, drop_all}
 use Rattle.std.proofs.lemmas.List.Elements.{All-push, All-get_or}
 use Rattle.std.proofs.lemmas.List.Quantifiers.{all_pairs_push}
-use Rattle.std.proofs.Math.Nat.{zero-mod}
 use Rattle.ho_base.specs.declared.numbers.Pfn.{Pfn}
 use Rattle.buddy_pages.specs.FreeFrames.{AreApart, appended, is_free, is_free_run, free_runs, with_frames, without_runs, NoRunBelow}
 use Rattle.buddy_pages.specs.Blocks.{free_frames, AreBlocks}
@@ -31,14 +30,14 @@ pub record Collecting (old tags : List ℕ) (order taken at : ℕ) (runs : List 
   pub ended : All (λ p. p.0 + 2 ^ order ≤ at) runs
   pub apart : AllPairs (AreApart order) runs
 
-pub collecting_begins : (old : List ℕ) (order : ℕ) → AreBlocks old → Collecting old old order 0 0 []
+pub collecting_begins : (old : List ℕ) (order from : ℕ) → AreBlocks old → from % 2 ^ order ≡ 0 → NoRunBelow (free_frames old) order from → Collecting old old order 0 from []
 unfolding without_runs
-collecting_begins old order k =
+collecting_begins old order from k h none =
     record {
       blocks = k;
       frames = refl;
-      aligned = zero-mod (2 ^ order);
-      none = record { none = λ p l r. omega arith };
+      aligned = h;
+      none = none;
       left = omega arith;
       many = refl;
       set = refl;
@@ -55,7 +54,7 @@ without_runs-push o free [] p = refl
 without_runs-push o free (q ∷ runs) p = without_runs-push o (with_frames free q.0 (2 ^ o) false) runs p
 
 -- a frame that is free without a run was free
-still_free : (free : List Bool) (f c p : ℕ) → f + c ≤ length free → is_free (with_frames free f c false) p ≡ true → is_free free p ≡ true
+pub still_free : (free : List Bool) (f c p : ℕ) → f + c ≤ length free → is_free (with_frames free f c false) p ≡ true → is_free free p ≡ true
 still_free free f c p fits h =
     elim (place f c p) [
       | inside a b ↦ absurd (false≢true (sym (with_frames_in free f c false p fits a b) ∙ h))
@@ -118,12 +117,13 @@ pub record Collects (old tags : List ℕ) (order taken at : ℕ) (before now : L
   pub kept : now ≡ before ++ appended before now
   pub runs : Collecting old tags order taken at (appended before now)
 
-pub collects_begins : (old : List ℕ) (order : ℕ) (before : List Pfn) → AreBlocks old → Collects old old order 0 0 before before
-collects_begins old order before k =
+pub collects_begins : (old : List ℕ) (order from : ℕ) (before : List Pfn) → AreBlocks old → from % 2 ^ order ≡ 0 → NoRunBelow (free_frames old) order from
+    → Collects old old order 0 from before before
+collects_begins old order from before k h below =
     let none : appended before before ≡ [] = drop_all (length before) before (omega arith) in
     record {
       kept = sym (append-nil before) ∙ ap (λ z. before ++ z) (sym none);
-      runs = subst (λ (z : List Pfn). Collecting old old order 0 0 z) (sym none) (collecting_begins old order k);
+      runs = subst (λ (z : List Pfn). Collecting old old order 0 from z) (sym none) (collecting_begins old order from k h below);
     }
 
 pub collects_goes_on : (old tags new : List ℕ) (order taken at next first len : ℕ) (before now more : List Pfn) (p : Pfn) → Collects old tags order taken at before now

@@ -14,3 +14,4 @@ pub mod Seek
 pub mod Fill
 pub mod Collect
 pub mod Taken
+pub mod Low

@@ -21,7 +21,7 @@ stays_taken free f c g d fits none = record {
 abbrev pub Within : ℕ → ℕ → List Pfn → Type 0
 Within o n runs = All (λ p. p.0 + 2 ^ o ≤ n) runs
 
-rest_within : (o n : ℕ) (p : Pfn) (runs : List Pfn) → Within o n (p ∷ runs) → Within o n runs
+pub rest_within : (o n : ℕ) (p : Pfn) (runs : List Pfn) → Within o n (p ∷ runs) → Within o n runs
 rest_within o n p runs h = λ i d l. h (suc i) d (omega arith)
 
 pub length-without_runs : (o : ℕ) (free : List Bool) (runs : List Pfn) → Within o (length free) runs → length (without_runs o free runs) ≡ length free

@@ -17,7 +17,7 @@ pub(crate) fn run_len(order: u8) -> usize
 }
 
 /// The last frame up to `frame` that a run of an order may begin at.
-fn start_of(frame: usize, order: u8) -> usize
+pub(crate) fn start_of(frame: usize, order: u8) -> usize
     requires { order ≤ MAX_ORDER }
     ensures { result ≡ frame - frame % 2 ^ order }
 {

@@ -4,7 +4,7 @@ ghost use Rattle.std.specs.Prelude.{◌≡◌, ◌+◌, ◌%◌, ◌^◌, ◌<�
 ghost use Rattle.std.specs.Bool.{OnFalse, OnTrue};
 ghost use Rattle.buddy_pages.specs.FreeFrames.{AreApart, all_but_first, appended, free_runs, is_free_run, none_free, with_frames, without_runs};
 
-use crate::blocks::{count_runs, give_run, take_run};
+use crate::blocks::{count_runs, give_run, start_of, take_run};
 use crate::page_map::PageMap;
 use crate::passes::{all_but_first_free, take_runs};
 use ho_base::limits::MAX_ORDER;
@@ -20,6 +20,8 @@ use std::marker::Model;
 #[derive(Debug, Drop)]
 pub struct Buddy {
     map: PageMap,
+    /// No frame below this one is free.
+    low: usize,
 }
 
 impl Model for Buddy {
@@ -28,10 +30,11 @@ impl Model for Buddy {
     ghost Value = { List Bool };
 
     ghost use Rattle.buddy_pages.specs.Blocks.{AreBlocks, free_frames};
+    ghost use Rattle.buddy_pages.specs.FreeFrames.{NoRunBelow};
 
     ghost view = { λ b. free_frames b.map };
 
-    ghost invariant = { λ b. AreBlocks b.map };
+    ghost invariant = { λ b. AreBlocks b.map × NoRunBelow (free_frames b.map) 0 b.low };
 }
 
 impl Buddy {
@@ -40,7 +43,7 @@ impl Buddy {
         ensures { IfOk result (λ buddy. buddy ≡ all_but_first frames) }
     {
         match all_but_first_free(alloc, frames) {
-            Ok(map) => Ok(Buddy { map }),
+            Ok(map) => Ok(Buddy { map, low: 0 }),
             Err(_) => Err(NoMemory),
         }
     }
@@ -55,9 +58,10 @@ impl Buddy {
     }
 
     /// Takes `count` runs out of the free frames and appends the number of each one's first frame to `out`.
-    /// False, with nothing changed, exactly where fewer runs of this order are wholly free. It costs one
-    /// pass over the frames at most, divided by a run's frames, and the orders for each run; a refusal
-    /// costs the orders alone.
+    /// False, with nothing changed, exactly where fewer runs of this order are wholly free. It costs the
+    /// frames from the least that may be free up to the last that it takes, divided by a run's frames, and
+    /// the orders for each run; a refusal costs the orders alone. Takes of single frames move that least
+    /// one on: taken one by one, they cost one pass over the frames in all, if none is given back.
     pub fn take(&mut self, order: Order, count: u32, out: &mut Vec<Pfn>) -> bool
         requires order { order.0 ≤ MAX_ORDER }
         requires room { vec_len out.old + count ≤ vec_capacity out.old }
@@ -78,7 +82,11 @@ impl Buddy {
         if count_runs(&self.map, order.0) < count as usize {
             return false;
         }
-        take_runs(&mut self.map, order.0, count, out);
+        let from = start_of(self.low, order.0);
+        let end = take_runs(&mut self.map, from, order.0, count, out);
+        if order.0 == 0 {
+            self.low = end;
+        }
         true
     }
 
@@ -92,5 +100,6 @@ impl Buddy {
         ensures { self.new ≡ with_frames self.old first.0 (2 ^ order.0) true }
     {
         give_run(&mut self.map, first.0 as usize, order.0);
+        self.low = self.low.min(first.0 as usize);
     }
 }

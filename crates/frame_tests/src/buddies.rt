@@ -133,6 +133,10 @@ fn frames_merge_back_in_any_order(rt: HostRuntime) -> Result<(), Fail> {
     for (start, step) in [(0u32, 1u32), (63, 63), (5, 27), (32, 33)] {
         let mut buddy = Buddy::new(alloc, 64)?;
         let mut free = first_free(alloc, 64)?;
+        // A frame that came back is where the next search begins, also where it is the first one.
+        let mut first = Vec::with_capacity(alloc, 1)?;
+        assert!(rt; take_frames(&mut buddy, &mut free, 1, &mut first));
+        assert!(rt; give_frame(&mut buddy, &mut free, 1));
         let before = format!(in alloc; "{buddy:?}")?;
         let mut taken = Vec::with_capacity(alloc, 63)?;
         assert!(rt; take_frames(&mut buddy, &mut free, 63, &mut taken));

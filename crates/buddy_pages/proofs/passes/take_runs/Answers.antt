@@ -8,7 +8,7 @@ use Rattle.buddy_pages.proofs.passes.take_runs.Goals as goal
 
 pub loop-init : goal.loop-init
 loop-init c = record {
-  collects = collects_begins c.args.map.now c.args.order c.args.out.now.items c.requires.blocks;
+  collects = collects_begins c.args.map.now c.args.order c.args.from c.args.out.now.items c.requires.blocks c.requires.aligned c.requires.none;
   room = search rules;
   capacity = search rules;
 }
