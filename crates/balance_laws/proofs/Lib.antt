@@ -34,5 +34,6 @@ pub mod CarriedAll
 pub mod Numbering
 pub mod NextRuns
 pub mod NextSound
+pub mod CarriedFollows
 pub mod NextWhole
 pub mod EachCommand

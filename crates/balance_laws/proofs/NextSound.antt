@@ -1,4 +1,4 @@
--- The next kernel begins in a sound world.
+-- The files and the pool of a kernel that begins with what a state carries.
 use Rattle.std.proofs.Common.{◌≡◌, ◌⊎◌, inl, inr, ℕ, zero, suc, ◌+◌, ◌<◌, ◌≤◌, List, [], ◌∷◌, ◌++◌, length, refl, sym, ap, subst, ◌∙◌, arith}
 use Rattle.std.specs.Prelude.{Option, None, Some, is_some, option_map, slice_get}
 use Rattle.std.specs.Ordering.{nat_cmp}
@@ -8,19 +8,16 @@ use Rattle.std.proofs.lemmas.Bool.{cases_lt}
 use Rattle.ho_events.specs.File.{filled}
 use Rattle.ho_events.specs.Handler.{BoundState, cold_handler, no_side}
 use Rattle.ho_events.specs.Lists.{upto}
-use Rattle.ho_world.specs.Frozen.{CarriedFile, carried_files, carried_bounds, bound_of, frozen, held, next_file, next_handler, next_pool, incoming_side, own_files, own_bounds}
-use Rattle.ho_world.specs.Sequences.{Labels}
-use Rattle.ho_world.specs.World.{World, HandlerIn, handler_in, pool_at}
-use Rattle.balance_laws.specs.Carrying.{CarriedFits, In, CanCarry}
+use Rattle.ho_world.specs.Frozen.{CarriedFile, Frozen, carried_files, held, next_file, next_handler, next_pool, incoming_side, own_files, own_bounds}
+use Rattle.balance_laws.specs.Carrying.{CarriedFits, In, CanFollow}
 use Rattle.balance_laws.specs.OneEach.{OneEach, Place}
-use Rattle.balance_laws.specs.Sound.{Sound, RunsFit, FileFits, owns, run_in}
+use Rattle.balance_laws.specs.Sound.{FileFits, owns, run_in}
 use Rattle.balance_laws.proofs.Base.{same_value, not_some, clash}
-use Rattle.balance_laws.proofs.CarriedAll.{sound_can_carry}
 use Rattle.balance_laws.proofs.Cold.{none_in}
 use Rattle.balance_laws.proofs.Giving.{owned_at, is_owned_at}
 use Rattle.balance_laws.proofs.Maps.{put_at, put_off}
 use Rattle.balance_laws.proofs.Numbering.{get_front, get_rest, get_below, below_got, length_both}
-use Rattle.balance_laws.proofs.NextRuns.{IsOf, files_from, files_has, all_at, all_in, in_at, at_in, once_in, own_once, one_file_of}
+use Rattle.balance_laws.proofs.NextRuns.{IsOf, files_from, files_has, in_at, at_in, once_in, own_once, one_file_of}
 
 -- ---- the numbers in turn, by place
 
@@ -91,54 +88,41 @@ all_none n [] k h = refl
 all_none n (b ∷ bs) zero h = ap (λ x. incoming_side n (Some x)) h.0
 all_none n (b ∷ bs) (suc k) h = all_none n bs k h.1
 
-module _ (labels : ℕ → Labels) (w : World) (sound : Sound w labels) where
+-- where there is no bound record, the next pool owns the runs of files alone
+own_none : (bs : List (Option BoundState)) (m : finmap.FinMap nat_cmp ℕ) → AllByRecursion (λ b. b ≡ None) bs → own_bounds bs m ≡ m
+own_none [] m h = refl
+own_none (b ∷ bs) m h = ap (λ o. own_bounds (o ∷ bs) m) h.0 ∙ own_none bs m h.1
+
+owned_is : (f : Frozen) → AllByRecursion (λ b. b ≡ None) f.bounds → (next_pool f).owned ≡ own_files (carried_files f) finmap.empty
+owned_is f none = own_none f.bounds (own_files (carried_files f) finmap.empty) none
+
+pub of_file : (f : Frozen) → AllByRecursion (λ b. b ≡ None) f.bounds → (p n : ℕ) → finmap.get (next_pool f).owned p ≡ Some n → IsOf (carried_files f) p n
+of_file f none p n e = at (files_from (carried_files f) finmap.empty p n (ap (λ m. finmap.get m p) (sym (owned_is f none)) ∙ e))
+  where
+    at : (finmap.get (finmap.empty {X = ℕ} {R = nat_cmp}) p ≡ Some n) ⊎ IsOf (carried_files f) p n → IsOf (carried_files f) p n
+    at (inl h) = absurd (none_in p n h)
+    at (inr k) = k
+
+module _ (f : Frozen) (can : CanFollow f) where
   abbrev cs : List CarriedFile
-  cs = carried_files (frozen w)
+  cs = carried_files f
 
-  can : CanCarry w
-  can = sound_can_carry labels w sound
+  pub cold_next : (k : ℕ) → next_handler f k ≡ cold_handler
+  cold_next k = ap (λ s. record cold_handler { incoming = s }) (all_none _ f.bounds k can.bounds)
 
-  no_bounds : carried_bounds w ≡ None ∷ None ∷ None ∷ None ∷ []
-  unfolding upto
-  no_bounds = λ j. bound 2 (sound.sorts 2) j ∷ bound 3 (sound.sorts 3) j ∷ bound 4 (sound.sorts 4) j ∷ bound 5 (sound.sorts 5) j ∷ []
+  now : (c : CarriedFile) (i p : ℕ) → slice_get cs i ≡ Some c → In p c.runs → finmap.get (next_pool f).owned p ≡ Some c.order
+  now c i p e h = at (finmap.get (next_pool f).owned p) refl
     where
-      bound : (o : ℕ) → w.at o ≡ HandlerIn cold_handler → bound_of (handler_in (w.at o)).outgoing ≡ None
-      bound o is = ap (λ s. bound_of (handler_in s).outgoing) is
-
-  pub cold_next : (k : ℕ) → next_handler (frozen w) k ≡ cold_handler
-  cold_next k = ap (λ s. record cold_handler { incoming = s }) (all_none _ (carried_bounds w) k (subst (AllByRecursion (λ b. b ≡ None)) (sym no_bounds) (refl, (refl, (refl, (refl, tt))))))
-
-  owned_is : (next_pool (frozen w)).owned ≡ own_files cs finmap.empty
-  owned_is = ap (λ bs. own_bounds bs (own_files cs finmap.empty)) no_bounds
-
-  of_file : (p n : ℕ) → finmap.get (next_pool (frozen w)).owned p ≡ Some n → IsOf cs p n
-  of_file p n e = at (files_from cs finmap.empty p n (ap (λ m. finmap.get m p) (sym owned_is) ∙ e))
-    where
-      at : (finmap.get (finmap.empty {X = ℕ} {R = nat_cmp}) p ≡ Some n) ⊎ IsOf cs p n → IsOf cs p n
-      at (inl h) = absurd (none_in p n h)
-      at (inr k) = k
-
-  old : (c : CarriedFile) (i p : ℕ) → slice_get cs i ≡ Some c → In p c.runs → finmap.get (pool_at w).owned p ≡ Some c.order
-  old c i p e h = all_in (λ q. finmap.get (pool_at w).owned q ≡ Some c.order) c.runs p (all_at (λ (d : CarriedFile). AllByRecursion (λ q. finmap.get (pool_at w).owned q ≡ Some d.order) d.runs) cs i c can.owned e) h
-
-  was : (p n : ℕ) → finmap.get (next_pool (frozen w)).owned p ≡ Some n → finmap.get (pool_at w).owned p ≡ Some n
-  was p n e = let k : IsOf cs p n = of_file p n e in old k.file k.number p k.is k.has ∙ ap Some (sym k.order)
-
-  now : (c : CarriedFile) (i p : ℕ) → slice_get cs i ≡ Some c → In p c.runs → finmap.get (next_pool (frozen w)).owned p ≡ Some c.order
-  now c i p e h = at (finmap.get (next_pool (frozen w)).owned p) refl
-    where
-      at : (o : Option ℕ) → finmap.get (next_pool (frozen w)).owned p ≡ o → finmap.get (next_pool (frozen w)).owned p ≡ Some c.order
-      at None is = absurd (clash (sym (files_has cs finmap.empty i c p e h) ∙ ap is_some (ap (λ m. finmap.get m p) (sym owned_is) ∙ is)))
-      at (Some n) is = is ∙ sym (was p n is) ∙ old c i p e h
-
-  pub runs_next : RunsFit (next_pool (frozen w))
-  runs_next = record {
-    each = λ p o e. sound.parts.runs.each p o (was p o e);
-    apart = λ p o q n i j e g li lj same. sound.parts.runs.apart p o q n i j (was p o e) (was q n g) li lj same;
-  }
+      at : (o : Option ℕ) → finmap.get (next_pool f).owned p ≡ o → finmap.get (next_pool f).owned p ≡ Some c.order
+      at None is = absurd (clash (sym (files_has cs finmap.empty i c p e h) ∙ ap is_some (ap (λ m. finmap.get m p) (sym (owned_is f can.bounds)) ∙ is)))
+      at (Some n) is =
+          let k : IsOf cs p n = of_file f can.bounds p n is in
+          let place : k.number ≡ i = one_file_of cs k.number i k.file c p can.apart k.is e k.has h in
+          let file : k.file ≡ c = same_value k.file c (sym k.is ∙ ap (slice_get cs) place ∙ e) in
+          is ∙ ap Some k.order ∙ ap (λ (d : CarriedFile). Some d.order) file
 
   -- the run of a file of the next kernel
-  run_next : (k i : ℕ) (v : ℕ × ℕ) → run_in (next_file (frozen w) k) i ≡ Some v → (c : CarriedFile) × (slice_get cs k ≡ Some c) × (slice_get c.runs i ≡ Some v.0) × (c.order ≡ v.1)
+  run_next : (k i : ℕ) (v : ℕ × ℕ) → run_in (next_file f k) i ≡ Some v → (c : CarriedFile) × (slice_get cs k ≡ Some c) × (slice_get c.runs i ≡ Some v.0) × (c.order ≡ v.1)
   run_next k i v e = at_file (slice_get cs k) refl e
     where
       at_file : (o : Option CarriedFile) → slice_get cs k ≡ o → run_in (option_map held o) i ≡ Some v → (c : CarriedFile) × (slice_get cs k ≡ Some c) × (slice_get c.runs i ≡ Some v.0) × (c.order ≡ v.1)
@@ -151,14 +135,14 @@ module _ (labels : ℕ → Labels) (w : World) (sound : Sound w labels) where
               let same : (p, c.order) ≡ v = same_value (p, c.order) v (sym (ap (option_map (λ p. (p, c.order))) got) ∙ g) in
               (c, is, got ∙ ap (λ (y : ℕ × ℕ). Some y.0) same, ap (λ (y : ℕ × ℕ). y.1) same)
 
-  pub owned_next : OneEach (λ k i. run_in (next_file (frozen w) k) i) (owns (next_pool (frozen w)))
+  pub owned_next : OneEach (λ k i. run_in (next_file f k) i) (owns (next_pool f))
   owned_next = record {
-    there = λ k i v e. (let r = run_next k i v e in is_owned_at (next_pool (frozen w)) v (now r.0 k v.0 r.1 (in_at r.0.runs i v.0 r.2) ∙ ap Some r.3));
-    found = λ v h. found v (of_file v.0 v.1 (owned_at (next_pool (frozen w)) v h));
+    there = λ k i v e. (let r = run_next k i v e in is_owned_at (next_pool f) v (now r.0 k v.0 r.1 (in_at r.0.runs i v.0 r.2) ∙ ap Some r.3));
+    found = λ v h. found v (of_file f can.bounds v.0 v.1 (owned_at (next_pool f) v h));
     once = λ k m i j v e g. once k m i j v (run_next k i v e) (run_next m j v g);
   }
     where
-      found : (v : ℕ × ℕ) → IsOf cs v.0 v.1 → Place (λ k i. run_in (next_file (frozen w) k) i) v
+      found : (v : ℕ × ℕ) → IsOf cs v.0 v.1 → Place (λ k i. run_in (next_file f k) i) v
       found v k =
           let m = at_in k.file.runs v.0 k.has in
           record { row = k.number; column = m.0; is = ap (λ o. run_in (option_map held o) m.0) k.is ∙ ap (option_map (λ p. (p, k.file.order))) (held_get k.file m.0 ∙ m.1) ∙ ap Some (λ j. (v.0, sym k.order j)) }

@@ -14,21 +14,20 @@ use Rattle.ho_events.specs.Handler.{cold_handler}
 use Rattle.ho_events.specs.Lists.{upto}
 use Rattle.ho_events.specs.Session.{SessionState, Listed, Free, In as InSession, files_of}
 use Rattle.ho_world.specs.Balance.{SLOTS, is_pinned, is_held, is_open}
-use Rattle.ho_world.specs.Frozen.{CarriedFile, CarriedSession, carried_files, carried_sessions, frozen, held, next, next_file, next_handler, next_pool, next_registry, next_session, next_listed, next_waiting, waiting_session, first_number, numbers_below}
-use Rattle.ho_world.specs.Sequences.{Labels}
-use Rattle.ho_world.specs.World.{World, by_number}
-use Rattle.balance_laws.specs.Carrying.{Rise, CarriedFits, CanCarry, NextIsSound}
+use Rattle.ho_world.specs.Frozen.{CarriedFile, CarriedSession, Frozen, carried_files, frozen, held, next, next_file, next_handler, next_pool, next_registry, next_session, next_listed, next_waiting, waiting_session, first_number, numbers_below}
+use Rattle.ho_world.specs.World.{by_number}
+use Rattle.balance_laws.specs.Carrying.{Rise, CarriedFits, CanFollow, FollowingIsSound, NextIsSound}
 use Rattle.balance_laws.specs.Keeps.{no_labels}
 use Rattle.balance_laws.specs.OneEach.{OneEach, Place}
 use Rattle.balance_laws.specs.Parts.{Parts}
-use Rattle.balance_laws.specs.Sound.{AreSound, Sound, FileFits, NamesMatch, SlotsFit, pinned_run, listed_out, listed_in, number_of, name_out, name_waiting, name_opened}
+use Rattle.balance_laws.specs.Sound.{AreSound, FileFits, NamesMatch, SlotsFit, pinned_run, listed_out, listed_in, number_of, name_out, name_waiting, name_opened}
 use Rattle.balance_laws.proofs.Base.{same_value, not_some, clash, sound_as}
-use Rattle.balance_laws.proofs.CarriedAll.{sound_can_carry}
+use Rattle.balance_laws.proofs.CarriedFollows.{can_follow}
 use Rattle.balance_laws.proofs.Cold.{nothing_each, none_named}
 use Rattle.balance_laws.proofs.Maps.{set_put, set_kept}
 use Rattle.balance_laws.proofs.Members.{In, in_upto, below_upto}
 use Rattle.balance_laws.proofs.NextRuns.{all_at}
-use Rattle.balance_laws.proofs.NextSound.{cold_next, runs_next, owned_next, held_fits}
+use Rattle.balance_laws.proofs.NextSound.{cold_next, owned_next, held_fits}
 use Rattle.balance_laws.proofs.Numbering.{IsPlaced, placed_file, number_placed, placed_once, get_below, below_got, waiting_named, waiting_at, listed_numbered_from, listed_number_at}
 
 get_past : {A : Type 0} (xs : List A) (i : ℕ) → length xs ≤ i → slice_get xs i ≡ None
@@ -78,40 +77,37 @@ below_is : (n : ℕ) (set : finset.FinSet nat_cmp) → numbers_below n set ≡ p
 unfolding put_each
 below_is n set = refl
 
-module _ (labels : ℕ → Labels) (w : World) (sound : Sound w labels) where
+module _ (f : Frozen) (can : CanFollow f) where
   abbrev ss : List CarriedSession
-  ss = carried_sessions w
+  ss = f.sessions
 
   abbrev cs : List CarriedFile
-  cs = carried_files (frozen w)
-
-  can : CanCarry w
-  can = sound_can_carry labels w sound
+  cs = carried_files f
 
   abbrev waits : ℕ → CarriedSession → SessionState
   waits i s = InSession s.name false (next_listed (first_number ss i) s.files finmap.empty)
 
-  session_is : (i : ℕ) (s : CarriedSession) → slice_get ss i ≡ Some s → next_session (frozen w) (OUT_SLOTS + i) ≡ waits i s
+  session_is : (i : ℕ) (s : CarriedSession) → slice_get ss i ≡ Some s → next_session f (OUT_SLOTS + i) ≡ waits i s
   session_is i s e =
       let place : OUT_SLOTS + i - OUT_SLOTS ≡ i = omega arith in
-      ap (λ b. if b then Free else waiting_session (frozen w) (OUT_SLOTS + i - OUT_SLOTS) (slice_get ss (OUT_SLOTS + i - OUT_SLOTS))) (le-ltb (OUT_SLOTS + i) OUT_SLOTS (omega arith))
-      ∙ ap (λ k. waiting_session (frozen w) k (slice_get ss k)) place ∙ ap (waiting_session (frozen w) i) e
+      ap (λ b. if b then Free else waiting_session f (OUT_SLOTS + i - OUT_SLOTS) (slice_get ss (OUT_SLOTS + i - OUT_SLOTS))) (le-ltb (OUT_SLOTS + i) OUT_SLOTS (omega arith))
+      ∙ ap (λ k. waiting_session f k (slice_get ss k)) place ∙ ap (waiting_session f i) e
 
   -- a slot is free, or has the session of its place
-  slot_is : (k : ℕ) → (next_session (frozen w) k ≡ Free) ⊎ ((i : ℕ) × (s : CarriedSession) × (k ≡ OUT_SLOTS + i) × (slice_get ss i ≡ Some s) × (next_session (frozen w) k ≡ waits i s))
+  slot_is : (k : ℕ) → (next_session f k ≡ Free) ⊎ ((i : ℕ) × (s : CarriedSession) × (k ≡ OUT_SLOTS + i) × (slice_get ss i ≡ Some s) × (next_session f k ≡ waits i s))
   slot_is k = by_order (cases_lt k OUT_SLOTS)
     where
-      by_order : (k < OUT_SLOTS) ⊎ (OUT_SLOTS ≤ k) → (next_session (frozen w) k ≡ Free) ⊎ ((i : ℕ) × (s : CarriedSession) × (k ≡ OUT_SLOTS + i) × (slice_get ss i ≡ Some s) × (next_session (frozen w) k ≡ waits i s))
-      by_order (inl l) = inl (ap (λ b. if b then Free else waiting_session (frozen w) (k - OUT_SLOTS) (slice_get ss (k - OUT_SLOTS))) (lt-ltb k OUT_SLOTS l))
+      by_order : (k < OUT_SLOTS) ⊎ (OUT_SLOTS ≤ k) → (next_session f k ≡ Free) ⊎ ((i : ℕ) × (s : CarriedSession) × (k ≡ OUT_SLOTS + i) × (slice_get ss i ≡ Some s) × (next_session f k ≡ waits i s))
+      by_order (inl l) = inl (ap (λ b. if b then Free else waiting_session f (k - OUT_SLOTS) (slice_get ss (k - OUT_SLOTS))) (lt-ltb k OUT_SLOTS l))
       by_order (inr l) = at_session (slice_get ss (k - OUT_SLOTS)) refl
         where
-          late : next_session (frozen w) k ≡ waiting_session (frozen w) (k - OUT_SLOTS) (slice_get ss (k - OUT_SLOTS))
-          late = ap (λ b. if b then Free else waiting_session (frozen w) (k - OUT_SLOTS) (slice_get ss (k - OUT_SLOTS))) (le-ltb k OUT_SLOTS l)
+          late : next_session f k ≡ waiting_session f (k - OUT_SLOTS) (slice_get ss (k - OUT_SLOTS))
+          late = ap (λ b. if b then Free else waiting_session f (k - OUT_SLOTS) (slice_get ss (k - OUT_SLOTS))) (le-ltb k OUT_SLOTS l)
 
           at_session : (o : Option CarriedSession) → slice_get ss (k - OUT_SLOTS) ≡ o
-              → (next_session (frozen w) k ≡ Free) ⊎ ((i : ℕ) × (s : CarriedSession) × (k ≡ OUT_SLOTS + i) × (slice_get ss i ≡ Some s) × (next_session (frozen w) k ≡ waits i s))
-          at_session None e = inl (late ∙ ap (waiting_session (frozen w) (k - OUT_SLOTS)) e)
-          at_session (Some s) e = inr (k - OUT_SLOTS, s, omega (arith, l), e, late ∙ ap (waiting_session (frozen w) (k - OUT_SLOTS)) e)
+              → (next_session f k ≡ Free) ⊎ ((i : ℕ) × (s : CarriedSession) × (k ≡ OUT_SLOTS + i) × (slice_get ss i ≡ Some s) × (next_session f k ≡ waits i s))
+          at_session None e = inl (late ∙ ap (waiting_session f (k - OUT_SLOTS)) e)
+          at_session (Some s) e = inr (k - OUT_SLOTS, s, omega (arith, l), e, late ∙ ap (waiting_session f (k - OUT_SLOTS)) e)
 
   -- what is listed under a token
   record IsAt (k t v : ℕ) : Type 0 where
@@ -125,10 +121,10 @@ module _ (labels : ℕ → Labels) (w : World) (sound : Sound w labels) where
     token : file.token ≡ t
     number : v ≡ first_number ss session + place
 
-  listed_is : (k t v : ℕ) → number_of (listed_in (next_session (frozen w) k) t) ≡ Some v → IsAt k t v
+  listed_is : (k t v : ℕ) → number_of (listed_in (next_session f k) t) ≡ Some v → IsAt k t v
   listed_is k t v e = at_slot (slot_is k)
     where
-      at_slot : (next_session (frozen w) k ≡ Free) ⊎ ((i : ℕ) × (s : CarriedSession) × (k ≡ OUT_SLOTS + i) × (slice_get ss i ≡ Some s) × (next_session (frozen w) k ≡ waits i s)) → IsAt k t v
+      at_slot : (next_session f k ≡ Free) ⊎ ((i : ℕ) × (s : CarriedSession) × (k ≡ OUT_SLOTS + i) × (slice_get ss i ≡ Some s) × (next_session f k ≡ waits i s)) → IsAt k t v
       at_slot (inl free) = absurd (not_some v (sym (ap (λ u. number_of (listed_in u t)) free) ∙ e))
       at_slot (inr m) =
           let n = listed_numbered_from (first_number ss m.0) m.1.files t v (ap (λ u. number_of (listed_in u t)) (sym m.4) ∙ e) in
@@ -137,14 +133,14 @@ module _ (labels : ℕ → Labels) (w : World) (sound : Sound w labels) where
   file_at_place : (k t v : ℕ) → (p : IsAt k t v) → slice_get cs v ≡ Some p.file
   file_at_place k t v p = placed_file ss v (record { session = p.session; is = p.is; there = p.there; place = p.place; file = p.file; has = p.has; number = p.number })
 
-  held_next : OneEach (λ k t. number_of (listed_in (next_session (frozen w) k) t)) (λ v. is_held (next_file (frozen w) v))
+  held_next : OneEach (λ k t. number_of (listed_in (next_session f k) t)) (λ v. is_held (next_file f v))
   held_next = record {
     there = λ k t v e. ap (λ o. is_held (option_map held o)) (file_at_place k t v (listed_is k t v e));
     found = λ v h. found v (slice_get cs v) refl h;
     once = λ k m t u v e g. once k m t u v (listed_is k t v e) (listed_is m u v g);
   }
     where
-      placed : (v : ℕ) → IsPlaced ss v → Place (λ k t. number_of (listed_in (next_session (frozen w) k) t)) v
+      placed : (v : ℕ) → IsPlaced ss v → Place (λ k t. number_of (listed_in (next_session f k) t)) v
       placed v p = record {
         row = OUT_SLOTS + p.session;
         column = p.file.token;
@@ -153,7 +149,7 @@ module _ (labels : ℕ → Labels) (w : World) (sound : Sound w labels) where
             ∙ listed_number_at (first_number ss p.session) p.is.files p.place p.file (all_at (λ (s : CarriedSession). Rise nat_cmp (map (λ (c : CarriedFile). c.token) s.files)) ss p.session p.is can.tokens p.there) p.has ∙ ap Some (sym p.number);
       }
 
-      found : (v : ℕ) (o : Option CarriedFile) → slice_get cs v ≡ o → is_held (option_map held (slice_get cs v)) ≡ true → Place (λ k t. number_of (listed_in (next_session (frozen w) k) t)) v
+      found : (v : ℕ) (o : Option CarriedFile) → slice_get cs v ≡ o → is_held (option_map held (slice_get cs v)) ≡ true → Place (λ k t. number_of (listed_in (next_session f k) t)) v
       found v None e h = absurd (clash (sym h ∙ ap (λ o. is_held (option_map held o)) e))
       found v (Some c) e h = placed v (number_placed ss v (below_got cs v c e))
 
@@ -165,34 +161,34 @@ module _ (labels : ℕ → Labels) (w : World) (sound : Sound w labels) where
           let file : p.file ≡ q.file = same_value p.file q.file (sym (file_at_place k t v p) ∙ file_at_place m u v q) in
           (p.slot ∙ ap (λ i. OUT_SLOTS + i) same.0 ∙ sym q.slot, sym p.token ∙ ap (λ (c : CarriedFile). c.token) file ∙ q.token)
 
-  seen_all : {X : Type 0} (see : SessionState → X) (x : X) → see Free ≡ x → ((i : ℕ) (s : CarriedSession) → see (waits i s) ≡ x) → (k : ℕ) → see (next_session (frozen w) k) ≡ x
+  seen_all : {X : Type 0} (see : SessionState → X) (x : X) → see Free ≡ x → ((i : ℕ) (s : CarriedSession) → see (waits i s) ≡ x) → (k : ℕ) → see (next_session f k) ≡ x
   seen_all see x free each k = at_slot (slot_is k)
     where
-      at_slot : (next_session (frozen w) k ≡ Free) ⊎ ((i : ℕ) × (s : CarriedSession) × (k ≡ OUT_SLOTS + i) × (slice_get ss i ≡ Some s) × (next_session (frozen w) k ≡ waits i s)) → see (next_session (frozen w) k) ≡ x
+      at_slot : (next_session f k ≡ Free) ⊎ ((i : ℕ) × (s : CarriedSession) × (k ≡ OUT_SLOTS + i) × (slice_get ss i ≡ Some s) × (next_session f k ≡ waits i s)) → see (next_session f k) ≡ x
       at_slot (inl h) = ap see h ∙ free
       at_slot (inr m) = ap see m.4 ∙ each m.0 m.1
 
-  no_names : (see : SessionState → Option (List ℕ)) → ((k : ℕ) → see (next_session (frozen w) k) ≡ None) → NamesMatch finmap.empty (λ k. see (next_session (frozen w) k))
+  no_names : (see : SessionState → Option (List ℕ)) → ((k : ℕ) → see (next_session f k) ≡ None) → NamesMatch finmap.empty (λ k. see (next_session f k))
   no_names see none = record { there = λ name s e. absurd (none_named name s e); found = λ name s e. absurd (not_some name (sym (none s) ∙ e)) }
 
-  waiting_next : NamesMatch (next_waiting OUT_SLOTS ss finmap.empty) (λ k. name_waiting (next_session (frozen w) k))
+  waiting_next : NamesMatch (next_waiting OUT_SLOTS ss finmap.empty) (λ k. name_waiting (next_session f k))
   waiting_next = record {
     there = λ name s e. there name s (waiting_named OUT_SLOTS ss finmap.empty name s e);
     found = λ name s e. found name s (slot_is s) e;
   }
     where
-      there : (name : List ℕ) (s : ℕ) → (finmap.get (finmap.empty {X = ℕ} {R = slice_cmp nat_cmp}) name ≡ Some s) ⊎ ((i : ℕ) × (c : CarriedSession) × (slice_get ss i ≡ Some c) × (c.name ≡ name) × (s ≡ OUT_SLOTS + i)) → name_waiting (next_session (frozen w) s) ≡ Some name
+      there : (name : List ℕ) (s : ℕ) → (finmap.get (finmap.empty {X = ℕ} {R = slice_cmp nat_cmp}) name ≡ Some s) ⊎ ((i : ℕ) × (c : CarriedSession) × (slice_get ss i ≡ Some c) × (c.name ≡ name) × (s ≡ OUT_SLOTS + i)) → name_waiting (next_session f s) ≡ Some name
       there name s (inl h) = absurd (none_named name s h)
-      there name s (inr m) = ap (λ k. name_waiting (next_session (frozen w) k)) m.4 ∙ ap name_waiting (session_is m.0 m.1 m.2) ∙ ap Some m.3
+      there name s (inr m) = ap (λ k. name_waiting (next_session f k)) m.4 ∙ ap name_waiting (session_is m.0 m.1 m.2) ∙ ap Some m.3
 
-      found : (name : List ℕ) (k : ℕ) → (next_session (frozen w) k ≡ Free) ⊎ ((i : ℕ) × (s : CarriedSession) × (k ≡ OUT_SLOTS + i) × (slice_get ss i ≡ Some s) × (next_session (frozen w) k ≡ waits i s)) → name_waiting (next_session (frozen w) k) ≡ Some name
+      found : (name : List ℕ) (k : ℕ) → (next_session f k ≡ Free) ⊎ ((i : ℕ) × (s : CarriedSession) × (k ≡ OUT_SLOTS + i) × (slice_get ss i ≡ Some s) × (next_session f k ≡ waits i s)) → name_waiting (next_session f k) ≡ Some name
           → finmap.get (next_waiting OUT_SLOTS ss finmap.empty) name ≡ Some k
       found name k (inl h) e = absurd (not_some name (sym (ap name_waiting h) ∙ e))
       found name k (inr m) e =
           let same : m.1.name ≡ name = same_value m.1.name name (sym (ap name_waiting m.4) ∙ e) in
           ap (finmap.get (next_waiting OUT_SLOTS ss finmap.empty)) (sym same) ∙ waiting_at OUT_SLOTS ss finmap.empty m.0 m.1 can.names m.3 ∙ ap Some (sym m.2)
 
-  slots_next : SlotsFit (next_session (frozen w))
+  slots_next : SlotsFit (next_session f)
   slots_next = record {
     outgoing = λ k name e. absurd (not_some name (sym (seen_all name_out None refl (λ i s. refl) k) ∙ e));
     incoming = λ k name opened files e. incoming k name opened files (slot_is k) e;
@@ -202,37 +198,37 @@ module _ (labels : ℕ → Labels) (w : World) (sound : Sound w labels) where
       free_not : (n : List ℕ) (opened : Bool) (files : finmap.FinMap nat_cmp Listed) → Free ≡ InSession n opened files → ⊥
       free_not n opened files e = cc
 
-      incoming : (k : ℕ) (name : List ℕ) (opened : Bool) (files : finmap.FinMap nat_cmp Listed) → (next_session (frozen w) k ≡ Free) ⊎ ((i : ℕ) × (s : CarriedSession) × (k ≡ OUT_SLOTS + i) × (slice_get ss i ≡ Some s) × (next_session (frozen w) k ≡ waits i s))
-          → next_session (frozen w) k ≡ InSession name opened files → OUT_SLOTS ≤ k
+      incoming : (k : ℕ) (name : List ℕ) (opened : Bool) (files : finmap.FinMap nat_cmp Listed) → (next_session f k ≡ Free) ⊎ ((i : ℕ) × (s : CarriedSession) × (k ≡ OUT_SLOTS + i) × (slice_get ss i ≡ Some s) × (next_session f k ≡ waits i s))
+          → next_session f k ≡ InSession name opened files → OUT_SLOTS ≤ k
       incoming k name opened files (inl h) e = absurd (free_not name opened files (sym h ∙ e))
       incoming k name opened files (inr m) e = let at = m.2 in omega (arith, at)
 
-      few : (k : ℕ) → (next_session (frozen w) k ≡ Free) ⊎ ((i : ℕ) × (s : CarriedSession) × (k ≡ OUT_SLOTS + i) × (slice_get ss i ≡ Some s) × (next_session (frozen w) k ≡ waits i s)) → finmap.len (files_of (next_session (frozen w) k)) ≤ SESSION_FILES
+      few : (k : ℕ) → (next_session f k ≡ Free) ⊎ ((i : ℕ) × (s : CarriedSession) × (k ≡ OUT_SLOTS + i) × (slice_get ss i ≡ Some s) × (next_session f k ≡ waits i s)) → finmap.len (files_of (next_session f k)) ≤ SESSION_FILES
       few k (inl h) =
-          let none : finmap.len (files_of (next_session (frozen w) k)) ≡ 0 = ap (λ s. finmap.len (files_of s)) h ∙ finmap.len-empty nat_cmp Listed in
+          let none : finmap.len (files_of (next_session f k)) ≡ 0 = ap (λ s. finmap.len (files_of s)) h ∙ finmap.len-empty nat_cmp Listed in
           omega (arith, none)
       few k (inr m) =
-          let same : finmap.len (files_of (next_session (frozen w) k)) ≡ finmap.len (next_listed (first_number ss m.0) m.1.files finmap.empty) = ap (λ s. finmap.len (files_of s)) m.4 in
+          let same : finmap.len (files_of (next_session f k)) ≡ finmap.len (next_listed (first_number ss m.0) m.1.files finmap.empty) = ap (λ s. finmap.len (files_of s)) m.4 in
           let most : finmap.len (next_listed (first_number ss m.0) m.1.files finmap.empty) ≤ finmap.len (finmap.empty {X = Listed} {R = nat_cmp}) + length m.1.files = listed_most (first_number ss m.0) m.1.files finmap.empty in
           let none : finmap.len (finmap.empty {X = Listed} {R = nat_cmp}) ≡ 0 = finmap.len-empty nat_cmp Listed in
           let low : length m.1.files ≤ SESSION_FILES = all_at (λ (s : CarriedSession). length s.files ≤ SESSION_FILES) ss m.0 m.1 can.few m.3 in
           omega (arith, same, most, none, low)
 
-  seen_file : {X : Type 0} (see : Option FileState → X) (x : X) → see None ≡ x → ((c : CarriedFile) → see (Some (held c)) ≡ x) → (n : ℕ) → see (next_file (frozen w) n) ≡ x
+  seen_file : {X : Type 0} (see : Option FileState → X) (x : X) → see None ≡ x → ((c : CarriedFile) → see (Some (held c)) ≡ x) → (n : ℕ) → see (next_file f n) ≡ x
   seen_file see x none each n = at_file (slice_get cs n)
     where
       at_file : (o : Option CarriedFile) → see (option_map held o) ≡ x
       at_file None = none
       at_file (Some c) = each c
 
-  fit_next : (n : ℕ) (g : FileState) → next_file (frozen w) n ≡ Some g → FileFits g
+  fit_next : (n : ℕ) (g : FileState) → next_file f n ≡ Some g → FileFits g
   fit_next n g e = at_file (slice_get cs n) refl e
     where
       at_file : (o : Option CarriedFile) → slice_get cs n ≡ o → option_map held o ≡ Some g → FileFits g
       at_file None is h = absurd (not_some g h)
       at_file (Some c) is h = subst FileFits (same_value (held c) g h) (held_fits c (all_at CarriedFits cs n c can.fit is))
 
-  used_next : (n : ℕ) → finset.contains (numbers_below (length cs) finset.empty) n ≡ is_some (next_file (frozen w) n)
+  used_next : (n : ℕ) → finset.contains (numbers_below (length cs) finset.empty) n ≡ is_some (next_file f n)
   used_next n = ap (λ s. finset.contains s n) (below_is (length cs) finset.empty) ∙ by_order (cases_lt n (length cs))
     where
       by_order : (n < length cs) ⊎ (length cs ≤ n) → finset.contains (put_each (upto (length cs)) finset.empty) n ≡ is_some (option_map held (slice_get cs n))
@@ -240,10 +236,10 @@ module _ (labels : ℕ → Labels) (w : World) (sound : Sound w labels) where
       by_order (inr l) =
           not_put (upto (length cs)) finset.empty n (λ i. (let low = below_upto n (length cs) i in omega (arith, low, l))) ∙ finset.contains-empty nat_cmp n ∙ sym (ap (λ o. is_some (option_map held o)) (get_past cs n l))
 
-  last_next : (k : ℕ) → SLOTS ≤ k → next_session (frozen w) k ≡ Free
+  last_next : (k : ℕ) → SLOTS ≤ k → next_session f k ≡ Free
   last_next k beyond = at_slot (slot_is k)
     where
-      at_slot : (next_session (frozen w) k ≡ Free) ⊎ ((i : ℕ) × (s : CarriedSession) × (k ≡ OUT_SLOTS + i) × (slice_get ss i ≡ Some s) × (next_session (frozen w) k ≡ waits i s)) → next_session (frozen w) k ≡ Free
+      at_slot : (next_session f k ≡ Free) ⊎ ((i : ℕ) × (s : CarriedSession) × (k ≡ OUT_SLOTS + i) × (slice_get ss i ≡ Some s) × (next_session f k ≡ waits i s)) → next_session f k ≡ Free
       at_slot (inl h) = h
       at_slot (inr m) =
           let at = m.2 in
@@ -252,12 +248,12 @@ module _ (labels : ℕ → Labels) (w : World) (sound : Sound w labels) where
           absurd (omega (arith, at, low, few, beyond))
 
   abbrev begins : Parts
-  begins = record { pool = next_pool (frozen w); registry = next_registry (frozen w); sessions = next_session (frozen w); files = next_file (frozen w) }
+  begins = record { pool = next_pool f; registry = next_registry f; sessions = next_session f; files = next_file f }
 
   next_sound : AreSound begins no_labels
   next_sound = record {
-    runs = runs_next labels w sound;
-    owned = owned_next labels w sound;
+    runs = can.runs;
+    owned = owned_next f can;
     pins = record {
       pinned = λ p h. absurd (clash (sym h ∙ finset.contains-empty nat_cmp p));
       covered = λ p c. absurd (not_some c.run (sym (seen_file (λ o. pinned_run o c.index) None refl (λ d. refl) c.file) ∙ c.is));
@@ -276,8 +272,11 @@ module _ (labels : ℕ → Labels) (w : World) (sound : Sound w labels) where
     last_file = λ n beyond. ap (option_map held) (get_past cs n (let few : length cs ≤ FILES = can.files in omega (arith, few, beyond)));
   }
 
+pub following_is_sound : FollowingIsSound
+following_is_sound f can =
+    sound_as (next f) (begins f can) no_labels
+    (λ o. (let cold : (λ k. next_handler f k) ≡ (λ k. cold_handler) = λ j k. cold_next f can k j in ap (λ h. by_number (next_pool f) (next_registry f) h (next_session f) (next_file f) o) cold))
+    (next_sound f can)
+
 pub next_is_sound : NextIsSound
-next_is_sound labels w sound =
-    sound_as (next (frozen w)) (begins labels w sound) no_labels
-    (λ o. (let cold : (λ k. next_handler (frozen w) k) ≡ (λ k. cold_handler) = λ j k. cold_next labels w sound k j in ap (λ h. by_number (next_pool (frozen w)) (next_registry (frozen w)) h (next_session (frozen w)) (next_file (frozen w)) o) cold))
-    (next_sound labels w sound)
+next_is_sound labels w sound = following_is_sound (frozen w) (can_follow labels w sound)

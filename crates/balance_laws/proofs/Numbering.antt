@@ -1,18 +1,18 @@
 -- The numbers of carried files, and the slots of carried sessions, in the next kernel.
-use Rattle.std.proofs.Common.{◌≡◌, ◌⊎◌, inl, inr, ℕ, zero, suc, ◌+◌, ◌-◌, ◌<◌, ◌≤◌, false, List, [], ◌∷◌, ◌++◌, map, length, take, fold, refl, sym, ap, ◌∙◌, arith, Less}
-use Rattle.std.specs.Prelude.{Some, slice_get, flat_map}
+use Rattle.std.proofs.Common.{◌≡◌, ◌⊎◌, inl, inr, ℕ, zero, suc, ◌+◌, ◌-◌, ◌<◌, ◌≤◌, true, false, List, [], ◌∷◌, ◌++◌, map, length, take, fold, refl, sym, ap, ◌∙◌, arith, Less}
+use Rattle.std.specs.Prelude.{◌==◌, Some, slice_get, flat_map}
 use Rattle.std.specs.Ordering.{nat_cmp}
-use Rattle.std.specs.Cmp.Lexicographic.{slice_cmp}
 use Rattle.std.specs.FinMap as finmap
-use Rattle.std.specs.List.{AllByRecursion}
-use Rattle.std.proofs.lemmas.Bool.{cases_eq, cases_lt}
-use Rattle.std.proofs.lemmas.Cmp.{nat_cmp_total, nat_list_cmp_total}
+use Rattle.std.specs.List.{AllByRecursion, IsDistinct}
+use Rattle.std.proofs.lemmas.Bool.{cases_eq, cases_lt, and_from, eq-eqb}
+use Rattle.std.proofs.lemmas.Cmp.{nat_cmp_total}
+use Rattle.ho_events.specs.Lists.{same_bytes}
 use Rattle.ho_events.specs.Registry.{Slots}
 use Rattle.ho_events.specs.Session.{Listed}
 use Rattle.ho_world.specs.Frozen.{CarriedFile, CarriedSession, next_listed, next_waiting, first_number}
 use Rattle.balance_laws.specs.Carrying.{Rise}
 use Rattle.balance_laws.specs.Sound.{number_of}
-use Rattle.balance_laws.proofs.Base.{same_value, not_some}
+use Rattle.balance_laws.proofs.Base.{same_value, not_some, clash}
 use Rattle.balance_laws.proofs.Carried.{not_less}
 use Rattle.balance_laws.proofs.Maps.{put_at, put_off, name_at, name_off, names_either}
 
@@ -178,19 +178,28 @@ waiting_named k (c ∷ ss) m name s e = at_rest (waiting_named (k + 1) ss (finma
     at_rest (inl h) (inl p) = let same : k ≡ s = same_value k s (sym (name_at m c.name k name p) ∙ h) in inr (0, c, refl, sym p, omega (arith, same))
     at_rest (inl h) (inr p) = inl (sym (name_off m c.name k name p) ∙ h)
 
-waiting_other : (k : ℕ) (ss : List CarriedSession) (m : Slots) (name : List ℕ) → AllByRecursion (λ n. slice_cmp nat_cmp name n ≡ Less) (names_of_all ss) → finmap.get (next_waiting k ss m) name ≡ finmap.get m name
-waiting_other k [] m name out = refl
-waiting_other k (c ∷ ss) m name out = waiting_other (k + 1) ss (finmap.insert m c.name k) name out.1 ∙ name_off m c.name k name (not_less (slice_cmp nat_cmp) nat_list_cmp_total name c.name out.0)
+same_self : (name : List ℕ) → same_bytes name name ≡ true
+same_self [] = refl
+same_self (x ∷ name) = and_from (x == x) (same_bytes name name) (eq-eqb x x refl) (same_self name)
 
-pub waiting_at : (k : ℕ) (ss : List CarriedSession) (m : Slots) (i : ℕ) (c : CarriedSession) → Rise (slice_cmp nat_cmp) (names_of_all ss) → slice_get ss i ≡ Some c → finmap.get (next_waiting k ss m) c.name ≡ Some (k + i)
-waiting_at k [] m i c rise e = absurd (not_some c e)
-waiting_at k (d ∷ ss) m zero c rise e =
+-- names that a test tells apart are different ones
+not_same : (a b : List ℕ) → same_bytes a b ≡ false → a ≡ b → ⊥
+not_same a b h e = clash (sym (same_self a) ∙ ap (same_bytes a) e ∙ h)
+
+waiting_other : (k : ℕ) (ss : List CarriedSession) (m : Slots) (name : List ℕ) → AllByRecursion (λ n. same_bytes name n ≡ false) (names_of_all ss) → finmap.get (next_waiting k ss m) name ≡ finmap.get m name
+waiting_other k [] m name out = refl
+waiting_other k (c ∷ ss) m name out = waiting_other (k + 1) ss (finmap.insert m c.name k) name out.1 ∙ name_off m c.name k name (not_same name c.name out.0)
+
+pub waiting_at : (k : ℕ) (ss : List CarriedSession) (m : Slots) (i : ℕ) (c : CarriedSession) → IsDistinct same_bytes (names_of_all ss) → slice_get ss i ≡ Some c → finmap.get (next_waiting k ss m) c.name ≡ Some (k + i)
+unfolding IsDistinct
+waiting_at k [] m i c apart e = absurd (not_some c e)
+waiting_at k (d ∷ ss) m zero c apart e =
     let same : d ≡ c = same_value d c e in
     let none : k ≡ k + 0 = omega arith in
-    ap (λ (x : CarriedSession). finmap.get (next_waiting k (d ∷ ss) m) x.name) (sym same) ∙ waiting_other (k + 1) ss (finmap.insert m d.name k) d.name rise.0 ∙ name_at m d.name k d.name refl ∙ ap Some none
-waiting_at k (d ∷ ss) m (suc i) c rise e =
+    ap (λ (x : CarriedSession). finmap.get (next_waiting k (d ∷ ss) m) x.name) (sym same) ∙ waiting_other (k + 1) ss (finmap.insert m d.name k) d.name apart.0 ∙ name_at m d.name k d.name refl ∙ ap Some none
+waiting_at k (d ∷ ss) m (suc i) c apart e =
     let more : k + 1 + i ≡ k + suc i = omega arith in
-    waiting_at (k + 1) ss (finmap.insert m d.name k) i c rise.1 e ∙ ap Some more
+    waiting_at (k + 1) ss (finmap.insert m d.name k) i c apart.1 e ∙ ap Some more
 
 pub listed_numbered_from : (n : ℕ) (cs : List CarriedFile) (t v : ℕ) → number_of (finmap.get (next_listed n cs finmap.empty) t) ≡ Some v → (i : ℕ) × (c : CarriedFile) × (slice_get cs i ≡ Some c) × (c.token ≡ t) × (v ≡ n + i)
 listed_numbered_from n cs t v e = at (listed_numbered n cs finmap.empty t v e)

@@ -1,17 +1,17 @@
 -- What a sound world gives for a kexec.
-use Rattle.std.specs.Prelude.{◌≡◌, ◌⊎◌, ℕ, ◌*◌, ◌^◌, ◌≤◌, false, List, [], ◌∷◌, map, length, Some}
+use Rattle.std.specs.Prelude.{◌≡◌, ◌⊎◌, ℕ, ◌*◌, ◌^◌, ◌≤◌, false, List, [], ◌∷◌, map, length, None, Some}
 use Rattle.std.specs.Ordering.{nat_cmp}
 use Rattle.std.specs.Cmp.Lexicographic.{slice_cmp}
 use Rattle.std.specs.FinMap as finmap
-use Rattle.std.specs.List.{AllByRecursion}
+use Rattle.std.specs.List.{AllByRecursion, IsDistinct}
 use Rattle.std.proofs.Common.{Ordering, Less}
 use Rattle.ho_base.specs.declared.limits.TheConstants.{OUT_SLOTS, FILES, FILE_BYTES, MAX_ORDER, PAGE_BYTES, SESSION_FILES}
 use Rattle.ho_base.specs.declared.numbers.Blob.{Blob}
 use Rattle.ho_base.specs.declared.numbers.Kind.TheVariants.{Memfd}
-use Rattle.ho_events.specs.Lists.{pieces}
+use Rattle.ho_events.specs.Lists.{pieces, same_bytes}
 use Rattle.ho_world.specs.Acts.{Sequence}
 use Rattle.ho_world.specs.Entries.{is_ok}
-use Rattle.ho_world.specs.Frozen.{CarriedFile, CarriedSession, carried_files, carried_sessions, frozen, next, preserved_devices}
+use Rattle.ho_world.specs.Frozen.{CarriedFile, CarriedSession, Frozen, carried_files, carried_sessions, frozen, next, next_pool, preserved_devices}
 use Rattle.ho_world.specs.Sequences.{Labels}
 use Rattle.ho_world.specs.Sequences.Kexecs.{KexecOutcome, kexec_acts}
 use Rattle.ho_world.specs.World.{State, World, pool_at, file_at}
@@ -76,6 +76,24 @@ pub record CanCarry (w : World) : Type 0 where
 -- a sound world can be carried
 abbrev pub SoundCanCarry : Type 0
 SoundCanCarry = (labels : ℕ → Labels) (w : World) → Sound w labels → CanCarry w
+
+-- What a carried state has for a sound world to begin with it: at most 16 sessions, no two of the same name, at most 31 files
+-- in each under rising tokens and 256 in all; each file fits, and no run is of two files or twice of one; there is no bound
+-- record. The runs that the next pool owns fit and share no frame.
+pub record CanFollow (f : Frozen) : Type 0 where
+  pub sessions : length f.sessions ≤ OUT_SLOTS
+  pub names : IsDistinct same_bytes (map (λ (s : CarriedSession). s.name) f.sessions)
+  pub few : AllByRecursion (λ (s : CarriedSession). length s.files ≤ SESSION_FILES) f.sessions
+  pub tokens : AllByRecursion (λ (s : CarriedSession). Rise nat_cmp (map (λ (c : CarriedFile). c.token) s.files)) f.sessions
+  pub files : length (carried_files f) ≤ FILES
+  pub fit : AllByRecursion CarriedFits (carried_files f)
+  pub apart : NoneShared (carried_files f)
+  pub bounds : AllByRecursion (λ b. b ≡ None) f.bounds
+  pub runs : RunsFit (next_pool f)
+
+-- a world that begins with such a state is sound, without a label
+abbrev pub FollowingIsSound : Type 0
+FollowingIsSound = (f : Frozen) → CanFollow f → Sound (next f) no_labels
 
 -- the world in which the next kernel begins is sound, without a label
 abbrev pub NextIsSound : Type 0

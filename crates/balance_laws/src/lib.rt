@@ -2,7 +2,7 @@
 //! are memfds. A law is the contract of a function without a body.
 #![tactic(auto)]
 
-ghost use Rattle.balance_laws.specs.Carrying.{RefusedKexecKeeps, NoDevices, NextIsSound, SoundCanCarry};
+ghost use Rattle.balance_laws.specs.Carrying.{RefusedKexecKeeps, NoDevices, FollowingIsSound, NextIsSound, SoundCanCarry};
 ghost use Rattle.balance_laws.specs.Keeps.{ColdIsSound, MemfdKeeps, WriteKeeps, FillKeeps, ReadKeeps, SeekKeeps, TellKeeps, TruncateKeeps, CloseFdKeeps, CreateKeeps, PreserveKeeps, CloseKeeps, OpenKeeps, RetrieveKeeps, FinishKeeps, EachKeeps};
 
 /// A machine that is switched on is sound, where no agent has a label.
@@ -95,6 +95,12 @@ pub fn no_devices()
 /// order; no run is of two files, or twice of one. Owned runs fit the machine and share no frame, and each is of a file.
 pub fn sound_can_carry()
     ensures { SoundCanCarry }
+{}
+
+/// A world that begins with a state of sessions with different names and memfds within all limits, none of whose runs is of two
+/// files, is sound, where no agent has a label.
+pub fn following_is_sound()
+    ensures { FollowingIsSound }
 {}
 
 /// The world in which the next kernel begins after a kexec of a sound world is sound, where no agent has a label.

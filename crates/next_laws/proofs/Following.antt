@@ -40,11 +40,11 @@ many : (ram : Ram) (ss : List SessionRecord) → length (map (carried_session ra
 many ram [] = refl
 many ram (s ∷ ss) = ap suc (many ram ss)
 
-many_files : (ram : Ram) (fs : List FileRecord) → length (map (carried_file ram) fs) ≡ length fs
+pub many_files : (ram : Ram) (fs : List FileRecord) → length (map (carried_file ram) fs) ≡ length fs
 many_files ram [] = refl
 many_files ram (f ∷ fs) = ap suc (many_files ram fs)
 
-files_are : (ram : Ram) (ss : List SessionRecord) → flat_map (λ (s : CarriedSession). s.files) (map (carried_session ram) ss) ≡ map (carried_file ram) (flat_map files_of ss)
+pub files_are : (ram : Ram) (ss : List SessionRecord) → flat_map (λ (s : CarriedSession). s.files) (map (carried_session ram) ss) ≡ map (carried_file ram) (flat_map files_of ss)
 files_are ram [] = refl
 files_are ram (s ∷ ss) = ap (λ l. map (carried_file ram) (files_of s) ++ l) (files_are ram ss) ∙ sym (map-append (carried_file ram) (files_of s) (flat_map files_of ss))
 
@@ -132,7 +132,7 @@ module _ (ram : Ram) (entry : ℕ) (k : Kept) (keep : Keep ram entry k) where
   version : k.version ≡ version_1
   version = version_is ram.count keep.tree (record { version = k.version; shape = k.shape; chunk = _; luo = keep.luo }) keep.root
 
-  facts : RecordFacts ram.count k.records
+  pub facts : RecordFacts ram.count k.records
   facts = record_facts ram.count k.records (subst (λ v. are_records v ram.count k.records ≡ true) version keep.records.rules)
 
   owned : (q : ℕ) → q < ram.count → is_owned_well k q ≡ true
@@ -160,7 +160,7 @@ module _ (ram : Ram) (entry : ℕ) (k : Kept) (keep : Keep ram entry k) where
   kept_files : list_all (is_file ram.count) (all_files k) ≡ true
   kept_files = all_kept ram.count (sessions_of k) facts.each
 
-  kept_slots : list_all has_slot (all_files k) ≡ true
+  pub kept_slots : list_all has_slot (all_files k) ≡ true
   kept_slots = all_slots ram.count (sessions_of k) facts.each
 
   all_free : k.shape.frames ≡ ram.count → CanAdopt k.shape (map as_pair (runs_in (all_files k)))

@@ -65,15 +65,17 @@ abbrev tokens_rise : List FileSlot → Bool
 tokens_rise = all_rise (λ a b. nat_lt a.token b.token)
 
 abbrev FewFiles : ℕ → List FileSlot → Type 0
-FewFiles before slots = (before + length slots ≤ FILES) × (tokens_rise slots ≡ true)
+FewFiles before slots = (before + length slots ≤ FILES) × (length slots ≤ SESSION_FILES) × (tokens_rise slots ≡ true)
 
 file_tells : (before files : ℕ) (earlier : List (Sheet FileSlot)) (items : List FileSlot) (next : ℕ) → is_file_sheet version_1 before files earlier items next ≡ true → FewFiles before (items_of earlier ++ items)
 file_tells before files earlier items next h =
     let a = and_parts _ (nat_lt 0 next || eqb (length (items_of earlier) + length items) files) h in
     let b = and_parts _ (tokens_rise (items_of earlier ++ items)) a.0 in
     let c = and_parts _ (nat_le (before + (length (items_of earlier) + length items)) FILES) b.0 in
+    let d = and_parts _ (nat_le (length (items_of earlier) + length items) SESSION_FILES) c.0 in
     let few = leb-true (before + (length (items_of earlier) + length items)) FILES c.1 in
-    (omega (arith, few, length-append (items_of earlier) items), b.1)
+    let here = leb-true (length (items_of earlier) + length items) SESSION_FILES d.1 in
+    (omega (arith, few, length-append (items_of earlier) items), omega (arith, here, length-append (items_of earlier) items), b.1)
 
 slot_tells : (before files : ℕ) (earlier : List (Sheet FileSlot)) (items : List FileSlot) (next : ℕ) → is_file_sheet version_1 before files earlier items next ≡ true → list_all is_file_slot items ≡ true
 slot_tells before files earlier items next h =
@@ -98,8 +100,9 @@ runs_fit n f h =
 abbrev pub has_slot : FileRecord → Bool
 has_slot f = is_file_slot (file_slot f)
 
--- a session's files rise by token, and keep the rules of files of n frames and of slots
+-- a session has no more files than it may; they rise by token, and keep the rules of files of n frames and of slots
 pub record SessionFacts (n : ℕ) (s : SessionRecord) : Type 0 where
+  pub few : length (files_of s) ≤ SESSION_FILES
   pub rise : all_rise (λ (a b : FileRecord). nat_lt a.token b.token) (files_of s) ≡ true
   pub files : list_all (is_file n) (files_of s) ≡ true
   pub slots : list_all has_slot (files_of s) ≡ true
@@ -118,7 +121,7 @@ all_sessions n before (s ∷ ss) le h =
     let hs = and_parts _ (are_sessions version_1 n (before + length (files_of s)) ss) h in
     let parts = and_parts (keeps (is_file_sheet version_1 before (length (files_of s))) (file_sheets s)) (list_all file_fits (items_of (file_sheets s)) && list_all (is_file n) (files_of s)) hs.0 in
     let few : FewFiles before (items_of (file_sheets s)) =
-    last_says (is_file_sheet version_1 before (length (files_of s))) (FewFiles before) (file_tells before (length (files_of s))) (file_sheets s) (omega (arith, le), refl) parts.0 in
+    last_says (is_file_sheet version_1 before (length (files_of s))) (FewFiles before) (file_tells before (length (files_of s))) (file_sheets s) (omega (arith, le), omega arith, refl) parts.0 in
     let slots : FewFiles before (map file_slot (files_of s)) = subst (FewFiles before) (slots_are s) few in
     let count = slots.0 in
     let len = length_map file_slot (files_of s) in
@@ -128,7 +131,8 @@ all_sessions n before (s ∷ ss) le h =
       omega (arith, total, two),
       (
         record {
-          rise = rise_map file_slot (λ (a b : FileRecord). nat_lt a.token b.token) (λ (a b : FileSlot). nat_lt a.token b.token) (λ a b. refl) (files_of s) ∙ slots.1;
+          few = (let here = slots.1 in omega (arith, here, len));
+          rise = rise_map file_slot (λ (a b : FileRecord). nat_lt a.token b.token) (λ (a b : FileSlot). nat_lt a.token b.token) (λ a b. refl) (files_of s) ∙ slots.2;
           files = (and_parts (list_all file_fits (items_of (file_sheets s))) (list_all (is_file n) (files_of s)) parts.1).1;
           slots = sym (list_all-map is_file_slot file_slot (files_of s)) ∙ ap (list_all is_file_slot) (sym (slots_are s))
               ∙ each_says (is_file_sheet version_1 before (length (files_of s))) is_file_slot (slot_tells before (length (files_of s))) (file_sheets s) parts.0;

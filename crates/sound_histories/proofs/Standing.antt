@@ -38,7 +38,7 @@ use Rattle.balance_laws.proofs.Base.{clash}
 use Rattle.balance_laws.proofs.Cold.{cold_is_sound}
 use Rattle.sound_histories.specs.Binding.{makes_memfds, bound_with, bind_once, bound_in, sections_bind_once, HasOnly}
 use Rattle.sound_histories.specs.Kept.{AllMayCome}
-use Rattle.sound_histories.specs.Scripts.{memfds_in, AreSoundBlocks, ReadIsSound, ColdStands, RoundStands, RefusedStands, EndedStands}
+use Rattle.sound_histories.specs.Scripts.{memfds_in, AreSoundBlocks, ReadIsSound, BegunStands, ColdStands, RoundStands, RefusedStands, EndedStands}
 use Rattle.sound_histories.proofs.Bindings.{any_parts, after_only, once_may_come}
 use Rattle.sound_histories.proofs.BlocksKept.{round_keeps, refused_block_keeps, ended_block_keeps}
 use Rattle.sound_histories.proofs.ReadOnce.{each_one, bound_parts, section_parts, with_parts, read_binds_once}
@@ -172,22 +172,25 @@ ended_stands start blocks es new b k blob at begun numbers r t did ok stands = r
     gives : BeginsNext start blocks es new b k
     gives = kexec_begins_next start blocks es new b k blob at begun numbers r t did ok
 
--- a machine that is switched on
-cold_world : (start : World) → world_of start [] 0 ≡ start
+-- before the first block
+first_world : (start : World) → world_of start [] 0 ≡ start
 unfolding on run_from in_kernel beginning
-cold_world start = refl
+first_world start = refl
 
-cold_labels : (blocks : List Block) (a : ℕ) → labels_now blocks 0 a [] ≡ finmap.empty
+first_labels : (blocks : List Block) (a : ℕ) → labels_now blocks 0 a [] ≡ finmap.empty
 unfolding labels_now labeling_from
-cold_labels blocks a = refl
+first_labels blocks a = refl
+
+pub begun_stands : BegunStands
+begun_stands start blocks sound = record {
+  sound =
+      let none : no_labels ≡ (λ a. labels_now blocks 0 a []) = λ i a. sym (first_labels blocks a) i in
+      subst (λ (w : World). Sound w (λ a. labels_now blocks 0 a [])) (sym (first_world start)) (subst (λ l. Sound start l) none sound);
+  bound = λ a. subst (λ l. HasOnly l [] a) (sym (first_labels blocks a)) (none_only [] a);
+}
 
 pub cold_stands : ColdStands
-cold_stands shape blocks = record {
-  sound =
-      let none : no_labels ≡ (λ a. labels_now blocks 0 a []) = λ i a. sym (cold_labels blocks a) i in
-      subst (λ (w : World). Sound w (λ a. labels_now blocks 0 a [])) (sym (cold_world (cold shape))) (subst (λ l. Sound (cold shape) l) none (cold_is_sound shape));
-  bound = λ a. subst (λ l. HasOnly l [] a) (sym (cold_labels blocks a)) (none_only [] a);
-}
+cold_stands shape blocks = begun_stands (cold shape) blocks (cold_is_sound shape)
 
 -- the commands that are built make memfds alone
 built_memfds : (c : Command) → IsTrue (is_built c) → IsTrue (makes_memfds c)

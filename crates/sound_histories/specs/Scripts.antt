@@ -17,6 +17,8 @@ use Rattle.ho_world.specs.Legal.{labels_now}
 use Rattle.ho_world.specs.Sequences.{Labels}
 use Rattle.ho_world.specs.Through.{HasRisingNumbers, IsThrough}
 use Rattle.ho_world.specs.World.{State, World, cold}
+use Rattle.balance_laws.specs.Keeps.{no_labels}
+use Rattle.balance_laws.specs.Sound.{Sound}
 use Rattle.kexec_laws.specs.Kexecs.{IsKexecOf, IsKexeced}
 use Rattle.sound_histories.specs.Binding.{makes_memfds, bound_in, sections_bind_once, HasOnly}
 use Rattle.sound_histories.specs.Blocks.{IsSoundAfter}
@@ -38,6 +40,10 @@ pub record StandsSound (start : World) (blocks : List Block) (es : List Entry) (
 -- the blocks of each script that is read so far are of this kind
 abbrev pub ReadIsSound : Type 0
 ReadIsSound = (fresh : Bool) (bytes : List ℕ) (script : Script) → script_of fresh bytes ≡ Some script → AreSoundBlocks script.blocks
+
+-- a sound world in which no agent has a label, before the first block
+abbrev pub BegunStands : Type 0
+BegunStands = (start : World) (blocks : List Block) → Sound start no_labels → StandsSound start blocks [] 0 0
 
 -- a machine that is switched on, before the first block
 abbrev pub ColdStands : Type 0

@@ -6,7 +6,7 @@
 ghost use Rattle.sound_histories.specs.Binding.{OnceMayCome, ReadBindsOnce};
 ghost use Rattle.sound_histories.specs.Blocks.{RoundKeeps, RefusedBlockKeeps, EndedBlockKeeps};
 ghost use Rattle.sound_histories.specs.Kept.{WorkKeeps, TakenFreezesSame, KexecKeeps, KexecBeginsSound};
-ghost use Rattle.sound_histories.specs.Scripts.{ReadIsSound, ColdStands, RoundStands, RefusedStands, EndedStands};
+ghost use Rattle.sound_histories.specs.Scripts.{ReadIsSound, BegunStands, ColdStands, RoundStands, RefusedStands, EndedStands};
 ghost use Rattle.sound_histories.specs.Worlds.{EntriesAreActs};
 
 /// Entries that were done as a whole sequence are its acts, one after another, from the world before them to the world
@@ -67,6 +67,11 @@ pub fn read_binds_once()
 /// 9.
 pub fn read_is_sound()
     ensures { ReadIsSound }
+{}
+
+/// A sound world in which no agent has a label is one before the first block of a script.
+pub fn begun_stands()
+    ensures { BegunStands }
 {}
 
 /// Before the first block, the world of a machine that is switched on is sound, and no agent has a label.

@@ -1,0 +1,2 @@
+pub mod RunsApart
+pub mod Beginning
