@@ -1,8 +1,7 @@
 -- A loop over a list in which each item adds something to what was gathered.
-use Rattle.std.proofs.Common.{◌≡◌, ℕ, zero, suc, ◌+◌, ◌<◌, Bool, true, List, [], ◌∷◌, ◌++◌, length, get_or, map, drop, refl, sym, ap, ◌∙◌, arith, append_assoc, add-one, drop-cons}
-use Rattle.std.specs.List.{flat_map, list_all}
+use Rattle.std.proofs.Common.{◌≡◌, ℕ, ◌+◌, ◌<◌, List, [], ◌∷◌, ◌++◌, length, get_or, map, drop, refl, sym, ap, ◌∙◌, arith, append_assoc, add-one, drop-cons}
+use Rattle.std.specs.List.{flat_map}
 use Rattle.std.proofs.lemmas.List.{append-nil, drop_all}
-use Rattle.std.proofs.lemmas.Bool.{and_parts}
 
 -- the first of what is left
 pub drop_at : {X : Type 0} (xs : List X) (i : ℕ) (d : X) → i < length xs → drop i xs ≡ get_or xs i d ∷ drop (i + 1) xs
@@ -33,12 +32,3 @@ module _ {X Y : Type 0} (adds : X → List Y) (start : List Y) (xs : List X) whe
 pub one_each : {X Y : Type 0} (f : X → Y) (xs : List X) → flat_map (λ x. f x ∷ []) xs ≡ map f xs
 one_each f [] = refl
 one_each f (x ∷ xs) = ap (λ (l : List _). f x ∷ l) (one_each f xs)
-
--- what holds of all holds at a place
-pub holds_at : {X Y : Type 0} (test : Y → Bool) (view : X → Y) (xs : List X) (i : ℕ) (x d : X) → list_all test (map view xs) ≡ true → i < length xs → x ≡ get_or xs i d → test (view x) ≡ true
-holds_at test view xs i x d h lt e = ap (λ (y : _). test (view y)) e ∙ at xs i h lt
-  where
-    at : (xs : List _) (i : ℕ) → list_all test (map view xs) ≡ true → i < length xs → test (view (get_or xs i d)) ≡ true
-    at [] i h lt = absurd (omega (arith, lt))
-    at (y ∷ ys) zero h lt = (and_parts (test (view y)) (list_all test (map view ys)) h).0
-    at (y ∷ ys) (suc i) h lt = at ys i (and_parts (test (view y)) (list_all test (map view ys)) h).1 (omega (arith, lt))

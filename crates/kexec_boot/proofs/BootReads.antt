@@ -1,5 +1,5 @@
 -- What a boot reads.
-use Rattle.std.proofs.Common.{◌≡◌, ◌≢◌, ℕ, true, false, List, [], ◌∷◌, map, Result, Ok, Err, refl, sym, ap, subst, ◌∙◌, inr}
+use Rattle.std.proofs.Common.{◌≡◌, ◌≢◌, ℕ, true, false, List, [], ◌∷◌, map, Result, Ok, Err, refl, sym, ap, ◌∙◌, inr}
 use Rattle.std.specs.Prelude.{IsTrue, IfErr, IfOk, ◌&&◌, ◌==◌}
 use Rattle.std.specs.List.{list_all, flat_map}
 use Rattle.std.proofs.lemmas.Bool.{and_parts, eqb-true, eq-eqb, and_from}
@@ -14,7 +14,8 @@ use Rattle.record_frames.specs.declared.carried.Carried.{Carried}
 use Rattle.record_frames.specs.declared.carried.CarriedFile.{CarriedFile}
 use Rattle.record_frames.specs.declared.carried.CarriedSession.{CarriedSession}
 use Rattle.next_laws.specs.Begins.{is_memfd, are_memfds}
-use Rattle.kexec_boot.specs.Checked.{IsMisfit, all_memfds, is_memfd_file, same_area, same_areas, same_shape}
+use Rattle.kexec_boot.specs.Checked.{HasDevice, IsMisfit, all_memfds, is_memfd_file, same_area, same_areas, same_shape}
+use Rattle.kexec_boot.specs.Images.{IsImageRefusal}
 use Rattle.kexec_boot.specs.Refused.{IsUnread}
 use Rattle.kexec_boot.specs.declared.reading.BootError.{BootError}
 use Rattle.kexec_boot.specs.declared.reading.BootError.TheVariants.{BadImage, Unbuilt, Memory}
@@ -36,7 +37,7 @@ areas_same (x ∷ xs) (y ∷ ys) h =
     let hs = and_parts (same_area x y) (same_areas xs ys) h in
     λ j. area_same x y hs.0 j ∷ areas_same xs ys hs.1 j
 
-pub shape_same : (a b : Layout) → same_shape a b ≡ true → a ≡ b
+shape_same : (a b : Layout) → same_shape a b ≡ true → a ≡ b
 shape_same a b h =
     let hs = and_parts (a.frames == b.frames) (same_areas a.scratch b.scratch) h in
     let frames : a.frames ≡ b.frames = eqb-true a.frames b.frames hs.0 in
@@ -60,7 +61,7 @@ files_same : (ram : Ram) (fs : List CarriedFile) → list_all (λ (c : FileState
 files_same ram [] = refl
 files_same ram (f ∷ fs) = ap (λ b. is_memfd f.kind && b) (files_same ram fs)
 
-pub built_same : (ram : Ram) (ss : List CarriedSession) → list_all (λ (c : FileState). is_memfd c.kind) (flat_map (λ (s : SessionState). s.files) (map (session_in ram) ss)) ≡ all_memfds ss
+built_same : (ram : Ram) (ss : List CarriedSession) → list_all (λ (c : FileState). is_memfd c.kind) (flat_map (λ (s : SessionState). s.files) (map (session_in ram) ss)) ≡ all_memfds ss
 built_same ram [] = refl
 built_same ram (s ∷ ss) =
     list_all-append (λ (c : FileState). is_memfd c.kind) (map (file_in ram) s.files) (flat_map (λ (s : SessionState). s.files) (map (session_in ram) ss))
@@ -68,21 +69,28 @@ built_same ram (s ∷ ss) =
 
 -- ---- refusals
 
+-- what has a device file isn't memfds alone
+devices : (ram : Ram) (c : Carried) → all_memfds c.sessions ≡ false → ¬ (IsTrue (are_memfds (state_in ram c)))
+devices ram c has all = absurd (let bad : true ≡ false = sym all ∙ built_same ram c.sessions ∙ has in cc)
+
 misfit : (shape : Layout) (ram : Ram) (entry : ℕ) (c : Carried) (e : BootError) → Carries ram entry (state_in ram c) → IsMisfit c shape e → IsUnread shape ram entry e
 misfit shape ram entry c (BadImage p) carries (root, other) = inr (root, record { state = state_in ram c; carries = carries; other = shape_other c.shape shape other })
-misfit shape ram entry c Unbuilt carries (same, devices) =
-    (state_in ram c, carries, shape_same c.shape shape same, λ yes. absurd (let bad : true ≡ false = sym yes ∙ built_same ram c.sessions ∙ devices in cc))
+misfit shape ram entry c Unbuilt carries (same, has) =
+    (state_in ram c, carries, shape_same c.shape shape same, devices ram c has)
 misfit shape ram entry c Memory carries h = absurd h
 
 pub unread : (shape : Layout) (ram : Ram) (entry : ℕ) (c : Carried) (r : Result Carried BootError) → Carries ram entry (state_in ram c) → IfErr r (IsMisfit c shape) → IfErr r (IsUnread shape ram entry)
 unread shape ram entry c (Ok d) carries h = h
 unread shape ram entry c (Err e) carries h = misfit shape ram entry c e carries h
 
--- ---- what is taken
+-- what has a device file isn't what a kernel of any machine begins with
+pub unbuilt : (ram : Ram) (entry : ℕ) (c : Carried) (r : Result Carried BootError) → Carries ram entry (state_in ram c) → IfErr r (HasDevice c) → IfErr r (IsImageRefusal ram entry)
+unbuilt ram entry c (Ok d) carries h = h
+unbuilt ram entry c (Err (BadImage p)) carries h = absurd h
+unbuilt ram entry c (Err Unbuilt) carries h = (state_in ram c, carries, devices ram c h)
+unbuilt ram entry c (Err Memory) carries h = absurd h
 
-pub read_carries : (ram : Ram) (entry : ℕ) (c : Carried) (r : Result Carried BootError) → Carries ram entry (state_in ram c) → IfOk r (λ d. d ≡ c) → IfOk r (λ d. Carries ram entry (state_in ram d))
-read_carries ram entry c (Ok d) carries same = subst (λ (x : Carried). Carries ram entry (state_in ram x)) (sym same) carries
-read_carries ram entry c (Err e) carries same = same
+-- ---- what is taken
 
 pub read_shape : (shape : Layout) (c : Carried) (r : Result Carried BootError) → IfOk r (λ d. d ≡ c) → IfOk r (λ d. same_shape c.shape shape ≡ true) → IfOk r (λ d. d.shape ≡ shape)
 read_shape shape c (Ok d) same h = ap (λ (x : Carried). x.shape) same ∙ shape_same c.shape shape h

@@ -1,6 +1,6 @@
 -- What frames carried before a program was loaded, and what they carry afterwards.
 use Rattle.std.proofs.Common.{◌≡◌, ◌≢◌, ℕ, ◌≤◌, Result, Ok, Err, sym, ap, ◌∙◌, subst, arith, inl, inr}
-use Rattle.std.specs.Prelude.{IsTrue, IfErr, IfOk}
+use Rattle.std.specs.Prelude.{IsTrue, IfOk}
 use Rattle.ho_base.specs.ShapeRule.{Layout}
 use Rattle.ho_base.specs.declared.limits.TheConstants.{MAX_FRAMES}
 use Rattle.ho_base.specs.declared.numbers.Blob.{Blob}
@@ -16,7 +16,7 @@ use Rattle.scratch_laws.specs.Scratch.{StayBeside, ScratchIsFree}
 use Rattle.next_laws.specs.Begins.{are_memfds}
 use Rattle.kexec_boot.specs.Begins.{BeginsAs}
 use Rattle.kexec_boot.specs.Loaded.{with_blob}
-use Rattle.kexec_boot.specs.Refused.{IsIll, IsUnread, IsBootRefusal, IsWant}
+use Rattle.kexec_boot.specs.Refused.{IsIll, IsUnread, IsBootRefusal}
 use Rattle.kexec_boot.specs.declared.reading.BootError.{BootError}
 use Rattle.kexec_boot.specs.declared.reading.BootError.TheVariants.{BadImage, Unbuilt, Memory}
 
@@ -57,12 +57,3 @@ module _ (h : Handoff) (blob : Blob) (new : Ram) (few : new.count ≤ MAX_FRAMES
   refusal Unbuilt (g, after, same, devices) =
       λ f before yes. devices (subst (λ (x : Frozen). IsTrue (are_memfds x)) (only_one h.shape (ram_of h.frames) new h.entry.0 few beside scratch one none f g before after same) yes)
   refusal Memory unread = tt
-
-  want : (e : BootError) → IsWant e → IsBootRefusal h blob e
-  want (BadImage p) w = absurd w
-  want Unbuilt w = absurd w
-  want Memory w = tt
-
-  pub wanted : (r : Result KernelValue BootError) → IfErr r IsWant → IfErr r (IsBootRefusal h blob)
-  wanted (Ok k) w = w
-  wanted (Err e) w = want e w

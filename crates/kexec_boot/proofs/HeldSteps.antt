@@ -1,17 +1,16 @@
 -- Files that are held one after the other.
-use Rattle.std.proofs.Common.{◌≡◌, ℕ, zero, suc, ◌+◌, ◌-◌, ◌*◌, ◌^◌, ◌≤◌, ◌<◌, List, [], ◌∷◌, ◌++◌, map, length, take, drop, refl, sym, ap, ◌∙◌, subst, arith, append_assoc, length-append, inl, inr, get_or, pow_pos, mul-le-mul_left}
-use Rattle.std.specs.Prelude.{min, reverse, Option, Some, None, true, false, slice_index_or}
+use Rattle.std.proofs.Common.{◌≡◌, ℕ, suc, ◌+◌, ◌*◌, ◌^◌, ◌<◌, List, [], ◌∷◌, ◌++◌, map, length, take, drop, refl, sym, ap, ◌∙◌, subst, arith, append_assoc, length-append, inl, inr, get_or}
+use Rattle.std.specs.Prelude.{min, reverse, Option, Some, true, false, slice_index_or}
 use Rattle.std.specs.List.{flat_map, All}
 use Rattle.std.specs.FinMap as finmap
 use Rattle.std.proofs.lemmas.Bool.{cases_lt}
-use Rattle.std.proofs.lemmas.List.{map-append, append-nil, take_all, take_at, drop_at, take-append-drop, drop_all, length-take, length-drop, length-reverse, reverse-append, reverse-reverse}
-use Rattle.std.proofs.Math.Nat.{div-lt_iff_lt-mul}
+use Rattle.std.proofs.lemmas.List.{map-append, append-nil, take_all, take_at, drop_at, take-append-drop, drop_all, length-take, reverse-append, reverse-reverse}
 use Rattle.ho_base.specs.Objects.{file_no}
-use Rattle.ho_base.specs.declared.limits.TheConstants.{FILE_BYTES, FILES, MAX_ORDER, PAGE_BYTES}
+use Rattle.ho_base.specs.declared.limits.TheConstants.{PAGE_BYTES}
 use Rattle.ho_base.specs.declared.numbers.Kind.TheVariants.{Memfd}
 use Rattle.ho_base.specs.declared.numbers.Order.{Order}
 use Rattle.ho_events.specs.File.{FileState, filled}
-use Rattle.ho_events.specs.Lists.{firsts, pieces, upto}
+use Rattle.ho_events.specs.Lists.{firsts, upto}
 use Rattle.file_folios.specs.HeldFiles.{held_file}
 use Rattle.machine_core.specs.Kernels.{AreHeld}
 use Rattle.memfd_file.specs.FileValues.{FileValue}
@@ -143,20 +142,6 @@ module _ (home : HomeId) (p : PlainFile) (folios : List FolioValue) (fits : Fits
             pin = false;
             hold = true;
           })
-
--- so many bytes have no more pieces
-no_more : (n p : ℕ) → 0 < p → pieces n p ≤ n
-no_more n p h =
-    let one : 1 ≤ p = omega (arith, h) in
-    let least : n * 1 ≤ n * p = mul-le-mul_left n one in
-    let lt : n + (p - 1) < (n + 1) * p = omega (arith, least, h) in
-    omega (arith, (div-lt_iff_lt-mul {k = p} {x = n + (p - 1)} {y = n + 1} h).1 lt)
-
--- a file has few runs: no more than a file may have bytes
-pub few_runs : (home : HomeId) (p : PlainFile) (folios : List FolioValue) → FitsFolios home p folios → p.count ≤ FILE_BYTES
-few_runs home p folios fits =
-    let some : 0 < PAGE_BYTES * 2 ^ p.order.0 = omega (arith, pow_pos p.order.0) in
-    omega (arith, no_more (length (bytes_with p folios)) (PAGE_BYTES * 2 ^ p.order.0) some, fits.count, fits.number, fits.within)
 
 -- ---- all files
 

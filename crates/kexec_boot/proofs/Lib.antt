@@ -4,6 +4,7 @@ pub mod BootSteps
 pub mod CarriedParts
 pub mod FileSteps
 pub mod HeldSteps
+pub mod ImageSteps
 pub mod LoadedPages
 pub mod NextWorld
 pub mod OpenSteps

@@ -4,7 +4,7 @@ use Rattle.std.specs.Prelude.{IfOk, IsOk, OnOk, Option, vec_len, vec_capacity}
 use Rattle.std.specs.FinMap as finmap
 use Rattle.ho_base.specs.declared.numbers.Order.{Order}
 use Rattle.ho_base.specs.declared.numbers.Pfn.{Pfn}
-use Rattle.ho_base.specs.declared.limits.TheConstants.{IN_SLOTS, FILES}
+use Rattle.ho_base.specs.declared.limits.TheConstants.{FILES}
 use Rattle.ho_events.specs.File.{FileState}
 use Rattle.ho_events.specs.Pool.{PoolState}
 use Rattle.ho_world.specs.Frozen.{Frozen}
@@ -61,17 +61,6 @@ module _ (m : Memory) (c : Carried) (p : Prepared) (ready : IsPrepared c.session
   few_files files e =
       let few = (can_wait (ram_of m) c can).files in
       omega (arith, few, ap length e, ap length ready.files, files_count c.sessions)
-
-  pub file_room : (files : List PlainFile) → files ≡ p.files.items → length files ≤ vec_capacity p.store.files
-  file_room files e =
-      let room = ready.store.file_room in
-      omega (arith, room, ap length e, ap length ready.files)
-
-  pub few_sessions : length p.sessions.items ≤ IN_SLOTS
-  few_sessions =
-      let few = (can_wait (ram_of m) c can).few in
-      let count = ready.count in
-      omega (arith, few, count)
 
   -- the kernel begins as the world that follows
   pub begins_as : (number : ℕ) (k : KernelValue) (pool : PoolState) (files : List (Option FileState)) (runs : List (Pfn × Order)) → PoolIsNext → RegistryIsNext → SessionIsNext

@@ -38,3 +38,9 @@ abbrev pub IsMisfit : Carried → Layout → BootError → Type 0
 IsMisfit c shape (BadImage p) = (p ≡ Root) × (same_shape c.shape shape ≡ false)
 IsMisfit c shape Unbuilt = (same_shape c.shape shape ≡ true) × (all_memfds c.sessions ≡ false)
 IsMisfit c shape Memory = ⊥
+
+-- Why a kernel doesn't begin with this on any machine: a file is a device file.
+abbrev pub HasDevice : Carried → BootError → Type 0
+HasDevice c (BadImage p) = ⊥
+HasDevice c Unbuilt = all_memfds c.sessions ≡ false
+HasDevice c Memory = ⊥

@@ -1,6 +1,7 @@
 pub mod Begins
 pub mod Checked
 pub mod Files
+pub mod Images
 pub mod Loaded
 pub mod Prepared
 pub mod Refused

@@ -15,6 +15,12 @@ use Rattle.kexec_boot.specs.Loaded.{with_blob}
 use Rattle.kexec_boot.specs.declared.reading.BootError.{BootError}
 use Rattle.kexec_boot.specs.declared.reading.BootError.TheVariants.{BadImage, Unbuilt, Memory}
 
+-- Why frames weren't read: their rules break at this place first. Of want of memory nothing is said.
+abbrev pub IsBroken : Ram → ℕ → BootError → Type 0
+IsBroken ram entry (BadImage p) = BreakAt ram entry p
+IsBroken ram entry Unbuilt = ⊥
+IsBroken ram entry Memory = Unit {0}
+
 -- frames carry a state of another shape
 pub record CarryOther (shape : Layout) (ram : Ram) (entry : ℕ) : Type 0 where
   pub state : Frozen

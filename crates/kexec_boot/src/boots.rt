@@ -62,7 +62,12 @@ pub fn boot(alloc: Global, handoff: Handoff, blob: Blob, number: u8) -> Result<K
 }
 
 /// Begins a kernel with what frames carry.
-fn begin(alloc: Global, frames: Frames, carried: Carried, number: u8) -> Result<Kernel, BootError>
+pub(crate) fn begin(
+    alloc: Global,
+    frames: Frames,
+    carried: Carried,
+    number: u8,
+) -> Result<Kernel, BootError>
     requires home { AllHome frames }
     requires count { carried.shape.frames ≡ length frames.pages }
     requires memfds { IsTrue (are_memfds (state_in (ram_of frames) carried)) }

@@ -4,10 +4,12 @@
 mod boots;
 mod files;
 mod holding;
+mod images;
 mod loading;
 mod prepared;
 mod reading;
 mod waiting;
 
 pub use boots::boot;
+pub use images::boot_image;
 pub use reading::BootError;

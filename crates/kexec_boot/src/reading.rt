@@ -7,8 +7,9 @@ ghost use Rattle.record_frames.specs.Carries.{Carries};
 ghost use Rattle.record_frames.specs.State.{state_in};
 ghost use Rattle.record_frames.specs.Sheeted.{ram_of};
 ghost use Rattle.next_laws.specs.Begins.{is_memfd, are_memfds};
-ghost use Rattle.kexec_boot.specs.Checked.{IsMisfit, all_memfds, is_memfd_file, same_area, same_areas, same_shape};
-ghost use Rattle.kexec_boot.specs.Refused.{IsUnread};
+ghost use Rattle.kexec_boot.specs.Checked.{HasDevice, IsMisfit, all_memfds, is_memfd_file, same_area, same_areas, same_shape};
+ghost use Rattle.kexec_boot.specs.Images.{IsImageRefusal};
+ghost use Rattle.kexec_boot.specs.Refused.{IsBroken, IsUnread};
 
 use ho_base::numbers::{Kind, Pfn};
 use ho_base::shape::{Area, Shape};
@@ -43,10 +44,35 @@ pub(crate) fn read(
     ensures memfds { IfOk result (λ c. IsTrue (are_memfds (state_in (ram_of frames.now) c))) }
     ensures refused { IfErr result (IsUnread shape.now (ram_of frames.now) entry.0) }
 {
-    match survey(alloc, frames, u64::from(entry.0)) {
+    match read_any(alloc, frames, u64::from(entry.0)) {
+        Ok(carried) => checked(carried, shape),
+        Err(error) => Err(error),
+    }
+}
+
+/// What frames carry for the machine that they themselves say, from the entry frame's number on: each file is a memfd.
+pub(crate) fn read_image(alloc: Global, frames: &Frames, entry: u64) -> Result<Carried, BootError>
+    requires home { AllHome frames.now }
+    ensures carries { IfOk result (λ c. Carries (ram_of frames.now) entry (state_in (ram_of frames.now) c)) }
+    ensures memfds { IfOk result (λ c. IsTrue (are_memfds (state_in (ram_of frames.now) c))) }
+    ensures refused { IfErr result (IsImageRefusal (ram_of frames.now) entry) }
+{
+    match read_any(alloc, frames, entry) {
+        Ok(carried) => built(carried),
+        Err(error) => Err(error),
+    }
+}
+
+/// What frames carry, of whatever shape and kinds, from the entry frame's number on.
+fn read_any(alloc: Global, frames: &Frames, entry: u64) -> Result<Carried, BootError>
+    requires home { AllHome frames.now }
+    ensures carries { IfOk result (λ c. Carries (ram_of frames.now) entry (state_in (ram_of frames.now) c)) }
+    ensures refused { IfErr result (IsBroken (ram_of frames.now) entry) }
+{
+    match survey(alloc, frames, entry) {
+        Ok(carried) => Ok(carried),
         Err(SurveyError::BadImage(place)) => Err(BootError::BadImage(place)),
         Err(SurveyError::Memory) => Err(BootError::Memory),
-        Ok(carried) => checked(carried, shape),
     }
 }
 
@@ -58,13 +84,22 @@ fn checked(carried: Carried, shape: &Shape) -> Result<Carried, BootError>
     ensures refused { IfErr result (IsMisfit carried shape.now) }
 {
     if is_same(&carried.shape, shape) {
-        if is_built(carried.sessions.as_slice()) {
-            Ok(carried)
-        } else {
-            Err(BootError::Unbuilt)
-        }
+        built(carried)
     } else {
         Err(BootError::BadImage(ImagePlace::Root))
+    }
+}
+
+/// What is carried, where each file is a memfd.
+fn built(carried: Carried) -> Result<Carried, BootError>
+    ensures same { IfOk result (λ c. c ≡ carried) }
+    ensures memfds { IfOk result (λ c. all_memfds carried.sessions ≡ true) }
+    ensures refused { IfErr result (HasDevice carried) }
+{
+    if is_built(carried.sessions.as_slice()) {
+        Ok(carried)
+    } else {
+        Err(BootError::Unbuilt)
     }
 }
 

@@ -1,4 +1,4 @@
-use Rattle.std.proofs.Common.{◌≡◌, map, ap, ◌∙◌}
+use Rattle.std.proofs.Common.{◌≡◌, map, ◌∙◌}
 use Rattle.kexec_boot.specs.Files.{states_with}
 use Rattle.kexec_boot.proofs.OpenSteps.{can_adopt, enough, fit, states_are, few_files, begins_as, finished}
 use Rattle.kexec_boot.proofs.boots.open.Goals as goal

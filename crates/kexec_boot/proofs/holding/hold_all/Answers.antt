@@ -1,4 +1,4 @@
-use Rattle.std.proofs.Common.{◌≡◌, length, refl, arith}
+use Rattle.std.proofs.Common.{refl, arith}
 use Rattle.kexec_boot.proofs.HeldSteps.{holding_more, of_left_over}
 use Rattle.kexec_boot.proofs.holding.hold_all.Goals as goal
 

@@ -1,4 +1,4 @@
-use Rattle.std.proofs.Common.{◌≡◌, ◌≤◌, length}
+use Rattle.std.proofs.Common.{◌≤◌, length}
 use Rattle.std.specs.Vec.{vec_capacity}
 use Rattle.kexec_boot.proofs.HeldSteps.{Holding}
 use Rattle.kexec_boot.proofs.holding.hold_all.Given as goal

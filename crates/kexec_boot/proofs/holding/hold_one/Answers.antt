@@ -1,4 +1,4 @@
-use Rattle.std.proofs.Common.{◌≡◌, ◌≤◌, ap, sym, subst, ◌∙◌}
+use Rattle.std.proofs.Common.{◌≡◌, ◌≤◌, sym, subst}
 use Rattle.std.specs.Prelude.{IfOk}
 use Rattle.ho_base.specs.declared.limits.TheConstants.{FILE_BYTES}
 use Rattle.kexec_boot.proofs.HeldSteps.{held_with, size_is}

@@ -1,4 +1,4 @@
-use Rattle.std.proofs.Common.{◌≡◌, ◌+◌, ◌-◌, ◌≤◌, length}
+use Rattle.std.proofs.Common.{◌≡◌, ◌+◌, ◌-◌, ◌≤◌}
 use Rattle.std.specs.Vec.{vec_capacity, vec_len}
 use Rattle.kexec_boot.proofs.HeldSteps.{Moving}
 use Rattle.kexec_boot.proofs.holding.next_folios.Given as goal

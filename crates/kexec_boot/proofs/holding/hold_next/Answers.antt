@@ -1,1 +1,0 @@
-use Rattle.kexec_boot.proofs.holding.hold_next.Goals as goal
