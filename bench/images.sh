@@ -1,6 +1,7 @@
 #!/bin/bash
 # The time of writing the image of 16,384 frames, 64 MiB, at a kexec: a run with --images less the same run without, beside
-# a cp of that image, which is in memory then. The best of five runs each.
+# a cp of that image, which is in memory then. And the time of reading it and booting from it: a whole run of resume, whose
+# script reads a byte. The best of five runs each.
 set -u
 top=$(cd -P "$(dirname "${BASH_SOURCE[0]}")/.." && pwd) || exit 1
 work=$(mktemp -d) || exit 1
@@ -24,7 +25,9 @@ best_of() {
 }
 
 printf 'machine 16384\nscratch 1 8\nround\nagent a\nmemfd m 0\nwrite m 0 00112233\ncreate s\npreserve s 1 m\nkexec 1 4\n' >script
+printf 'round\nagent a\nopen s\nretrieve s 1 r\nread r 0 1\n' >next
 without=$(best_of "$program" run script)
 with=$(best_of "$program" run script --images image)
 copied=$(best_of cp image.1 copy)
-echo "an image of $(stat -c %s image.1) bytes: $((with - without)) us; cp of it: $copied us"
+resumed=$(best_of "$program" resume image.1 next)
+echo "an image of $(stat -c %s image.1) bytes: written in $((with - without)) us, read and booted in $resumed us; cp of it: $copied us"
