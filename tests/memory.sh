@@ -72,4 +72,12 @@ cp "$top/examples/kexec.script" "$work/kexec" || exit 1
 fronts='0 14 16'
 refuse_each "a kexec" run kexec
 
+# From the image of that kexec's first kernel on. The image's 262,176 bytes are read in blocks.
+run_program run kexec --images kept
+printf 'round\nagent a\nopen s\nretrieve s 7 r\nread r 0 5\nfinish s\n' >"$work/next"
+fronts=0
+refuse_each "a resume" resume kept.1 next
+head -c 31 "$work/kept.1" >"$work/broken"
+refuse_each "an image that is refused" resume broken next
+
 finish

@@ -12,20 +12,23 @@ use Rattle.ho_events.specs.declared.script.AgentWork.{AgentWork}
 use Rattle.ho_events.specs.declared.script.Block.{Block}
 use Rattle.ho_events.specs.declared.script.Block.TheVariants.{Round, Kexec}
 use Rattle.ho_events.specs.declared.script.Script.{Script}
+use Rattle.ho_world.specs.Frozen.{next}
 use Rattle.ho_world.specs.World.{State, World, cold, handler_at}
 use Rattle.ho_world.specs.Entries.{in_kernel, beginning}
 use Rattle.ho_world.specs.Legal.{labels_now, labeling_from}
 use Rattle.ho_world.proofs.Fronts.{and_left, and_right, all_follow, eq_true}
 use Rattle.ho_world.proofs.Rising.{rest, numbered_rises}
 use Rattle.ho_world.proofs.Rounds.{numbered_rounds}
-use Rattle.machine_core.specs.Kernels.{KernelValue, cold_begun, begun_in, histories_in}
+use Rattle.machine_core.specs.Kernels.{KernelValue, cold_begun, begun_in, histories_in, if_built}
 use Rattle.machine_core.specs.LabelsShown.{agent_count}
 use Rattle.machine_core.specs.Objects.{spot_at}
 use Rattle.handover_cli.specs.Rounds.{IsAfter}
-use Rattle.handover_cli.specs.Run.{OnCold}
+use Rattle.handover_cli.specs.Resumes.{BeginsWith}
+use Rattle.handover_cli.specs.Stops.{BeginsBlocks}
 use Rattle.sound_histories.specs.Scripts.{AreSoundBlocks}
+use Rattle.sound_histories.proofs.Standing.{begun_stands, cold_stands}
 use Rattle.handover_cli.specs.Works.{CanDo, CanRun}
-use Rattle.handover_cli.proofs.KernelWorlds.{built_is, cold_quiet, no_handler, all_same, how_many}
+use Rattle.handover_cli.proofs.KernelWorlds.{built_is, cold_quiet, next_quiet, no_handler, all_same, how_many}
 use Rattle.kexec_laws.specs.Kexecs.{is_agent, has_agents}
 use Rattle.kexec_laws.proofs.KexecNumbers.{numbered_kexecs}
 use Rattle.ho_base.specs.Objects.{handler_no}
@@ -46,24 +49,41 @@ first_begins : (start : World) → beginning start [] 0 ≡ start
 unfolding beginning
 first_begins start = refl
 
--- a cold kernel is as no entries say
-pub cold_after : (shape : Layout) (blocks : List Block) (kernel : KernelValue) → kernel.number ≡ 0 → kernel.shape ≡ shape → begun_in kernel.objects ≡ cold_begun shape → ((n : ℕ) → histories_in kernel.objects n ≡ [])
-    → kernel.labels ≡ replicate agent_count finmap.empty → kernel.base ≡ 0 → kernel.updates ≡ 0 → IsAfter (cold kernel.shape) blocks [] 0 kernel
-cold_after shape blocks kernel number same begun histories labels base updates = record {
+-- a kernel that begins with a world is as no entries say
+begun_after : (start : World) (blocks : List Block) (kernel : KernelValue) → kernel.number ≡ 0 → kernel.updates ≡ start.number → ((n : ℕ) → begun_in kernel.objects n ≡ if_built (spot_at n) (start.at n)) → ((n : ℕ) → histories_in kernel.objects n ≡ [])
+    → kernel.labels ≡ replicate agent_count finmap.empty → kernel.base ≡ 0 → ((n : ℕ) → n < 4 → (handler_at start n).outgoing.files ≡ 0) → IsAfter start blocks [] 0 kernel
+begun_after start blocks kernel number updates begun histories labels base quiet = record {
   number = number;
-  updates = updates ∙ ap (λ (w : World). w.number) (sym (first_begins (cold kernel.shape)));
+  updates = updates ∙ ap (λ (w : World). w.number) (sym (first_begins start));
   due = refl;
-  begun = λ o s is. ap (λ (w : World). w.at o) (first_begins (cold kernel.shape) ∙ ap cold same) ∙ built_is (spot_at o) ((cold shape).at o) s (ap (λ (f : ℕ → Option State). f o) (sym begun) ∙ is);
+  begun = λ o s is. ap (λ (w : World). w.at o) (first_begins start) ∙ built_is (spot_at o) (start.at o) s (sym (begun o) ∙ is);
   histories = λ i o. point o i;
   base = base ∙ sym (none_stamped 0);
   labels = λ a. ap (λ ls. slice_index_or ls a finmap.empty) labels ∙ all_same agent_count a finmap.empty ∙ sym (none_bound blocks 0 a);
   lists = ap length labels ∙ how_many agent_count finmap.empty;
-  handlers = λ n less. ap (λ (w : World). (handler_at w n).outgoing.files) (first_begins (cold kernel.shape)) ∙ cold_quiet kernel.shape n less;
-  unbuilt = λ n less. ap (λ (f : ℕ → Option State). f (handler_no n)) begun ∙ no_handler n less ((cold shape).at (handler_no n));
+  handlers = λ n less. ap (λ (w : World). (handler_at w n).outgoing.files) (first_begins start) ∙ quiet n less;
+  unbuilt = λ n less. begun (handler_no n) ∙ no_handler n less (start.at (handler_no n));
 }
   where
     point : (o : ℕ) → histories_in kernel.objects o ≡ on o (in_kernel 0 [])
     point o = histories o ∙ sym (none_on o 0)
+
+-- a cold kernel begins blocks in the cold world of its shape
+pub cold_begins : (shape : Layout) (blocks : List Block) (kernel : KernelValue) → kernel.number ≡ 0 → begun_in kernel.objects ≡ cold_begun shape → ((n : ℕ) → histories_in kernel.objects n ≡ [])
+    → kernel.labels ≡ replicate agent_count finmap.empty → kernel.base ≡ 0 → kernel.updates ≡ 0 → BeginsBlocks (cold shape) blocks kernel
+cold_begins shape blocks kernel number begun histories labels base updates = record {
+  after = begun_after (cold shape) blocks kernel number updates (λ n. ap (λ (f : ℕ → Option State). f n) begun) histories labels base (cold_quiet shape);
+  sound = cold_stands shape blocks;
+}
+
+-- a kernel that begins with what an image carries begins blocks in the world that follows
+pub image_begins : (told : Option (List ℕ)) (blocks : List Block) (kernel : KernelValue) (with : BeginsWith told kernel) → BeginsBlocks (next with.state) blocks kernel
+image_begins told blocks kernel with =
+    let made = with.begins in
+    record {
+      after = begun_after (next with.state) blocks kernel made.number made.updates made.begun made.histories made.labels made.base (next_quiet with.state);
+      sound = begun_stands (next with.state) blocks with.sound;
+    }
 
 -- a test of all blocks at one of them
 all_at : (p : Block → Bool) (blocks : List Block) (b : ℕ) (block : Block) → slice_get blocks b ≡ Some block → IsTrue (list_all p blocks) → IsTrue (p block)
@@ -158,11 +178,3 @@ can_run script built numbered single small sound = record {
   where
     singles : IsTrue (list_all is_single_block script.blocks)
     singles = and_right (length script.fails == 0) _ single
-
--- what is true from a cold kernel's shape on
-pub on_cold : (Holds : World → List Block → Type 0) (script : Script) (shape given : Layout) (blocks : List Block) → script.shape ≡ Some given → shape ≡ given → blocks ≡ script.blocks → Holds (cold shape) blocks → OnCold Holds script
-on_cold Holds script shape given blocks is same all h = record {
-  shape = given;
-  shape_is = is;
-  holds = subst (λ bs. Holds (cold given) bs) all (subst (λ (s : Layout). Holds (cold s) blocks) same h);
-}

@@ -3,12 +3,16 @@ pub mod Blocks
 pub mod Drips
 pub mod Ends
 pub mod FileMade
+pub mod ImageFronts
 pub mod DueTexts
+pub mod ReadBack
 pub mod Refused
 pub mod ImageWorlds
 pub mod ImagesMade
 pub mod Rounds
 pub mod Shown
+pub mod Starts
+pub mod Stopping
 pub mod WorkedAlone
 pub mod Written
 pub mod KernelWorlds

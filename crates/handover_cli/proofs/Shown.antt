@@ -1,6 +1,6 @@
 -- What a finished run over a host in memory shows of its script and its output.
 use Rattle.std.proofs.Common.{◌≡◌, ◌∷◌, [], List, ℕ, Bool, true, false, nat_eq, IsTrue, codes, refl, sym, subst, ap, ◌∙◌}
-use Rattle.std.specs.Prelude.{Option, None, Some, option_map, unwrap_or}
+use Rattle.std.specs.Prelude.{Option, None, Some, unwrap_or}
 use Rattle.std.specs.Cmp.Lexicographic.{pointwise, told_text}
 use Rattle.ho_io.specs.Memory.{held_by}
 use Rattle.ho_io.specs.Told.{behind}
@@ -9,7 +9,7 @@ use Rattle.command_words.specs.Reading.{after, with_any, rest_after, with_name}
 use Rattle.command_words.specs.Requests.{asked_by}
 use Rattle.handover_cli.specs.Images.{Seen}
 use Rattle.handover_cli.specs.Words.{RunWords, run_asked, run_words}
-use Rattle.handover_cli.specs.Run.{OfScript, OnCold, WroteAll, RanLegally, with_opened}
+use Rattle.handover_cli.specs.Run.{WritesLegal, RanLegally, origin_of, with_opened, with_all_opened}
 use Rattle.handover_cli.specs.Shown.{IsHistoryOf}
 
 abbrev the_words : List (List ℕ)
@@ -17,7 +17,7 @@ the_words = codes "run" ∷ codes "s" ∷ []
 
 -- what the words ask for
 abbrev the_script : RunWords
-the_script = run_asked (codes "s") None
+the_script = run_asked (codes "s") None None
 
 words_fit : run_words the_words ≡ Some the_script
 unfolding after with_any rest_after with_name asked_by
@@ -27,18 +27,17 @@ pub shown : (script text : List ℕ) (words : List (List ℕ)) (holds : List ℕ
 unfolding behind
 shown script text words holds before now words_are held empty is ran =
     let asked_is : Some ran.asked ≡ Some the_script = sym ran.fits ∙ ap run_words words_are ∙ words_fit in
-    let name_is : ran.asked.script ≡ codes "s" = ap (λ (o : Option RunWords). unwrap_or (option_map (λ (r : RunWords). r.script) o) []) asked_is in
-    let told_is : holds ran.asked.script ≡ Some script = ap holds name_is ∙ held in
-    let start : Seen = with_opened before ran.asked.script in
-    let of : OfScript (Some script) (OnCold (λ start blocks. WroteAll start blocks ran.asked.images (with_opened before ran.asked.script) now)) =
-    subst (λ told. OfScript told (OnCold (λ start blocks. WroteAll start blocks ran.asked.images (with_opened before ran.asked.script) now))) told_is ran.wrote
+    let same : ran.asked ≡ the_script = ap (λ (o : Option RunWords). unwrap_or o the_script) asked_is in
+    let wrote : WritesLegal None (holds (codes "s")) None (with_opened before (codes "s")) now =
+    subst (λ (a : RunWords). WritesLegal (origin_of holds a) (holds a.script) a.images (with_all_opened before a) now) same ran.wrote
     in
+    let of : WritesLegal None (Some script) None (with_opened before (codes "s")) now = subst (λ told. WritesLegal None told None (with_opened before (codes "s")) now) held wrote in
     record {
       script = of.script;
       read = of.read;
       holds = record {
-        shape = of.holds.shape;
-        shape_is = of.holds.shape_is;
+        start = of.holds.start;
+        begins = of.holds.begins;
         holds = record {
           entries = of.holds.holds.entries;
           legal = of.holds.holds.legal;

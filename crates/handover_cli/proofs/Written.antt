@@ -170,6 +170,7 @@ module _ (start : World) (blocks : List Block) (b : ℕ) (block : Block) (kernel
         frames = e.handoff.frames;
         entry = e.handoff.entry.0;
         is = refl;
+        back = left.back;
         carries = left.carries (world_of start (es ++ new) k) (ended_world start blocks es new b kernel d.old block (has_ended n) runs is can s.through s.after d.did ending);
       }
 

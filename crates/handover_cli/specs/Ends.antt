@@ -12,6 +12,7 @@ use Rattle.machine_core.specs.Kernels.{KernelValue}
 use Rattle.machine_core.specs.Worlds.{IsWorldOf}
 use Rattle.record_frames.specs.Carries.{Carries}
 use Rattle.record_frames.specs.Sheeted.{ram_of}
+use Rattle.handover_cli.specs.Images.{IsReadBack}
 use Rattle.handover_cli.specs.Works.{DidBlock}
 use Rattle.handover_cli.specs.declared.rebooting.Ended.{Ended}
 use Rattle.handover_cli.specs.declared.rebooting.Next.{Next}
@@ -21,10 +22,12 @@ use Rattle.handover_cli.specs.declared.rebooting.Next.TheVariants as next
 abbrev pub HasMemfds : Frozen → Type 0
 HasMemfds f = All (λ c. c.kind ≡ Memfd) (carried_files f)
 
--- A kernel ended so: its frames carry what is frozen of its world, the machine's shape stays, and the program fits.
+-- A kernel ended so: its frames carry what is frozen of its world, and are read back from their image; the machine's shape
+-- stays, and the program fits.
 pub record EndedAs (old : KernelValue) (e : Ended) : Type 0 where
   pub kernel : e.kernel ≡ old.number
   pub shape : e.handoff.shape ≡ old.shape
+  pub back : IsReadBack e.handoff.frames e.handoff.entry.0
   pub carries : (w : World) → IsWorldOf old w → Carries (ram_of e.handoff.frames) e.handoff.entry.0 (frozen w)
   pub same_shape : (w : World) → IsWorldOf old w → (frozen w).shape ≡ old.shape
   pub memfds : (w : World) → IsWorldOf old w → HasMemfds (frozen w)

@@ -7,7 +7,7 @@ use Rattle.ho_io.specs.declared.host.Way.TheVariants.{Make}
 use Rattle.ho_world.specs.Entries.{world_of}
 use Rattle.ho_world.specs.Frozen.{Frozen, frozen}
 use Rattle.ho_world.specs.World.{World}
-use Rattle.image_file.specs.Image.{image}
+use Rattle.image_file.specs.Image.{image, fault_of, frames_of, entry_of}
 use Rattle.phys_frames.specs.Memory.{Memory}
 use Rattle.record_frames.specs.Carries.{Carries}
 use Rattle.record_frames.specs.Sheeted.{ram_of}
@@ -30,11 +30,28 @@ pub record IsUnasked (before now : Seen) : Type 0 where
 abbrev pub image_name : List ℕ → ℕ → List ℕ
 image_name file k = file ++ (codes "." ++ decimal k)
 
--- bytes are the image of frames that carry a state
+-- These frames are what is read from bytes that have no fault as an image: so many pages as their header says.
+pub record IsReadFrom (bytes : List ℕ) (frames : Memory) : Type 0 where
+  pub whole : fault_of bytes ≡ None
+  pub pages : frames.pages ≡ frames_of bytes
+
+-- the frames that are read from bytes carry a state, from the entry frame on that the bytes say
+pub record ReadsState (f : Frozen) (bytes : List ℕ) : Type 0 where
+  pub frames : Memory
+  pub read : IsReadFrom bytes frames
+  pub carries : Carries (ram_of frames) (entry_of bytes) f
+
+-- these frames and this entry number are what is read from their image
+pub record IsReadBack (frames : Memory) (entry : ℕ) : Type 0 where
+  pub read : IsReadFrom (image frames.pages entry) frames
+  pub entry_is : entry_of (image frames.pages entry) ≡ entry
+
+-- bytes are the image of frames that are read back from it, and these carry a state
 pub record IsImageOf (f : Frozen) (bytes : List ℕ) : Type 0 where
   pub frames : Memory
   pub entry : ℕ
   pub is : bytes ≡ image frames.pages entry
+  pub back : IsReadBack frames entry
   pub carries : Carries (ram_of frames) entry f
 
 -- bytes are some from the front of such an image, and not all of them

@@ -1,11 +1,14 @@
 pub mod Asked
 pub mod Due
 pub mod Ends
+pub mod ImageRefusals
 pub mod Images
 pub mod Kept
 pub mod Refusals
+pub mod Resumes
 pub mod Rounds
 pub mod Run
 pub mod Shown
+pub mod Stops
 pub mod Words
 pub mod Works

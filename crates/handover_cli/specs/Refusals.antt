@@ -1,5 +1,5 @@
 -- What is written of words that fit nothing, and of a script that is refused.
-use Rattle.std.specs.Prelude.{◌≡◌, ℕ, true, nat_lt, if◌then◌else◌, List, ◌++◌, length, codes, decimal, Option, Some, None, option_map}
+use Rattle.std.specs.Prelude.{◌≡◌, ℕ, Bool, nat_lt, if◌then◌else◌, List, ◌++◌, length, codes, decimal, Option, Some, None, option_map}
 use Rattle.ho_base.specs.declared.limits.TheConstants.{SCRIPT_BYTES}
 use Rattle.ho_events.specs.Script.{Refusal, refusal_of as script_refusal}
 use Rattle.ho_events.specs.declared.line.Reason.{Reason}
@@ -37,18 +37,19 @@ too_long_text = codes "script refused: too long\n"
 abbrev pub refusal_text : Refusal → List ℕ
 refusal_text r = line_text r.line r.why
 
--- The line that is due for a script of these bytes, where it is refused. One that has more bytes than a script
--- may have is too long, and no line of it is told; else its first refused line is, with the first reason for it.
-unfoldable pub refusal_of : List ℕ → Option (List ℕ)
-refusal_of script_bytes =
+-- The line that is due for a script of these bytes, fresh or one that goes on from an image, where it is refused. One that
+-- has more bytes than a script may have is too long, and no line of it is told; else its first refused line is, with the
+-- first reason for it.
+unfoldable pub refusal_of : Bool → List ℕ → Option (List ℕ)
+refusal_of fresh script_bytes =
     if nat_lt SCRIPT_BYTES (length script_bytes) then Some too_long_text
-    else option_map refusal_text (script_refusal true script_bytes)
+    else option_map refusal_text (script_refusal fresh script_bytes)
 
 -- a script isn't refused, where it is told;  this is the line of its refusal, where it is told
-abbrev pub IsAccepted : Option (List ℕ) → Type 0
-IsAccepted None = Unit {0}
-IsAccepted (Some script_bytes) = refusal_of script_bytes ≡ None
+abbrev pub IsAccepted : Bool → Option (List ℕ) → Type 0
+IsAccepted fresh None = Unit {0}
+IsAccepted fresh (Some script_bytes) = refusal_of fresh script_bytes ≡ None
 
-abbrev pub IsRefusal : Option (List ℕ) → List ℕ → Type 0
-IsRefusal None line = Unit {0}
-IsRefusal (Some script_bytes) line = refusal_of script_bytes ≡ Some line
+abbrev pub IsRefusal : Bool → Option (List ℕ) → List ℕ → Type 0
+IsRefusal fresh None line = Unit {0}
+IsRefusal fresh (Some script_bytes) line = refusal_of fresh script_bytes ≡ Some line

@@ -1,18 +1,20 @@
 -- What a run writes.
-use Rattle.std.specs.Prelude.{◌≡◌, ℕ, ◌+◌, ◌<◌, ◌≤◌, ◌⊎◌, true, List, ◌∷◌, ◌++◌, length, take, Option, Some, None}
+use Rattle.std.specs.Prelude.{◌≡◌, ℕ, ◌+◌, ◌<◌, ◌≤◌, ◌⊎◌, Bool, true, false, List, ◌∷◌, ◌++◌, length, take, Option, Some, None, option_map}
 use Rattle.ho_base.specs.ShapeRule.{Layout}
 use Rattle.ho_events.specs.Script.{script_of}
 use Rattle.ho_events.specs.Text.{line_of, text_of}
 use Rattle.ho_events.specs.declared.script.Block.{Block}
 use Rattle.ho_events.specs.declared.script.Script.{Script}
 use Rattle.ho_events.specs.declared.entry.Entry.{Entry}
-use Rattle.ho_io.specs.Told.{behind, with_item}
+use Rattle.ho_io.specs.Told.{behind, with_item, IsOneOf}
 use Rattle.ho_io.specs.declared.host.Way.TheVariants.{Open}
+use Rattle.ho_world.specs.Frozen.{Frozen, next}
 use Rattle.ho_world.specs.World.{World, cold}
 use Rattle.ho_world.specs.Legal.{IsLegal, IsLegalSoFar, MayCome, kernel_due}
 use Rattle.ho_world.specs.Through.{IsThrough}
 use Rattle.handover_cli.specs.Refusals.{IsAccepted, IsRefusal}
-use Rattle.handover_cli.specs.Images.{Seen, Made, MadeLess}
+use Rattle.handover_cli.specs.ImageRefusals.{IsImageRefusal}
+use Rattle.handover_cli.specs.Images.{Seen, ReadsState, Made, MadeLess}
 use Rattle.handover_cli.specs.Words.{RunWords, run_words}
 
 -- the output became longer by the text of a legal history of these blocks, from a world on, and by nothing else; the
@@ -55,55 +57,88 @@ pub record WroteSoFar (start : World) (blocks : List Block) (images : Option (Li
   pub through : IsThrough start blocks (entries ++ next ∷ rest) reached ended
   pub made : Made start (entries ++ next ∷ rest) ended images before now ⊎ ((n : ℕ) × (ended ≡ n + 1) × MadeLess start (entries ++ next ∷ rest) n images before now)
 
--- something is true of a script's blocks on a machine of its shape that begins cold
-pub record OnCold (Holds : World → List Block → Type 0) (script : Script) : Type 0 where
-  pub shape : Layout
-  pub shape_is : script.shape ≡ Some shape
-  pub holds : Holds (cold shape) script.blocks
+-- Where a script begins: on a machine that is switched on, or from an image, of whose bytes this is told.
+abbrev pub Origin : Type 0
+Origin = Option (Option (List ℕ))
+
+-- a script that begins on a machine that is switched on is fresh: it says the machine's shape
+abbrev pub is_fresh : Origin → Bool
+is_fresh None = true
+is_fresh (Some image) = false
+
+-- the frames that are read from bytes, where these are told, carry a state
+abbrev pub TellsState : Option (List ℕ) → Frozen → Type 0
+TellsState None f = Unit {0}
+TellsState (Some bytes) f = ReadsState f bytes
+
+-- a world is the one in which a script begins: cold, with the script's shape;  or the one that follows what an image carries
+abbrev pub BeginsIn : Origin → Script → World → Type 0
+BeginsIn None script start = (shape : Layout) × (script.shape ≡ Some shape) × (start ≡ cold shape)
+BeginsIn (Some image) script start = (f : Frozen) × TellsState image f × (start ≡ next f)
+
+-- something is true of a script's blocks from the world on in which it begins
+pub record OnStart (from : Origin) (Holds : World → List Block → Type 0) (script : Script) : Type 0 where
+  pub start : World
+  pub begins : BeginsIn from script start
+  pub holds : Holds start script.blocks
 
 -- these bytes, where they are told, spell the script
-abbrev pub Spells : Option (List ℕ) → Script → Type 0
-Spells None script = Unit {0}
-Spells (Some script_bytes) script = script_of true script_bytes ≡ Some script
+abbrev pub Spells : Bool → Option (List ℕ) → Script → Type 0
+Spells fresh None script = Unit {0}
+Spells fresh (Some script_bytes) script = script_of fresh script_bytes ≡ Some script
 
 -- what is told spells a script of which this is true
-pub record OfScript (told : Option (List ℕ)) (Holds : Script → Type 0) : Type 0 where
+pub record OfScript (fresh : Bool) (told : Option (List ℕ)) (Holds : Script → Type 0) : Type 0 where
   pub script : Script
-  pub read : Spells told script
+  pub read : Spells fresh told script
   pub holds : Holds script
 
 -- where a run is done
-abbrev pub WritesLegal : Option (List ℕ) → Option (List ℕ) → Seen → Seen → Type 0
-WritesLegal told images before now = OfScript told (OnCold (λ start blocks. WroteAll start blocks images before now))
+abbrev pub WritesLegal : Origin → Option (List ℕ) → Option (List ℕ) → Seen → Seen → Type 0
+WritesLegal from told images before now =
+    OfScript (is_fresh from) told (OnStart from (λ start blocks. WroteAll start blocks images before now))
 
--- where memory was wanted: nothing, or the text of whole blocks
-abbrev pub WritesBlocks : Option (List ℕ) → Option (List ℕ) → Seen → Seen → Type 0
-WritesBlocks told images before now =
-    (now ≡ before) ⊎ OfScript told (OnCold (λ start blocks. WroteBlocks start blocks images before now))
+-- where memory was wanted: the text of whole blocks
+abbrev pub WritesBlocks : Origin → Option (List ℕ) → Option (List ℕ) → Seen → Seen → Type 0
+WritesBlocks from told images before now =
+    OfScript (is_fresh from) told (OnStart from (λ start blocks. WroteBlocks start blocks images before now))
 
 -- what is seen after a file of this name was asked for
 abbrev pub with_opened : Seen → List ℕ → Seen
 with_opened s name = record s { asked = with_item s.asked (Open, name) }
+
+-- what is seen after the script was opened, and after it the image where there is one
+abbrev pub with_image_opened : Seen → Option (List ℕ) → Seen
+with_image_opened s None = s
+with_image_opened s (Some name) = with_opened s name
+
+abbrev pub with_all_opened : Seen → RunWords → Seen
+with_all_opened s asked = with_image_opened (with_opened s asked.script) asked.image
+
+-- what a host that holds these bytes tells of where a run begins
+abbrev pub origin_of : (List ℕ → Option (List ℕ)) → RunWords → Origin
+origin_of holds asked = option_map holds asked.image
 
 -- the words ask to run a script that isn't refused, which was opened, and the output became longer by the text of a legal
 -- history of what the host holds under its name
 pub record RanLegally (words : List (List ℕ)) (holds : List ℕ → Option (List ℕ)) (before now : Seen) : Type 0 where
   pub asked : RunWords
   pub fits : run_words words ≡ Some asked
-  pub accepted : IsAccepted (holds asked.script)
-  pub wrote : WritesLegal (holds asked.script) asked.images (with_opened before asked.script) now
+  pub accepted : IsAccepted (is_fresh (origin_of holds asked)) (holds asked.script)
+  pub wrote : WritesLegal (origin_of holds asked) (holds asked.script) asked.images (with_all_opened before asked) now
 
 -- the words ask to run a script, and the output became longer by the text of whole blocks of what the host holds under
--- its name, or nothing was done but to ask for the script
+-- its name, or nothing was done but to ask for the script, and for the image where there is one
 pub record RanShort (words : List (List ℕ)) (holds : List ℕ → Option (List ℕ)) (before now : Seen) : Type 0 where
   pub asked : RunWords
   pub fits : run_words words ≡ Some asked
-  pub wrote : WritesBlocks (holds asked.script) asked.images (with_opened before asked.script) now
+  pub wrote : IsOneOf (with_opened before asked.script) (with_all_opened before asked) now
+      ⊎ WritesBlocks (origin_of holds asked) (holds asked.script) asked.images (with_all_opened before asked) now
 
 -- the output became longer by the line of a script's refusal, and by nothing else
-pub record WroteRefusal (script_bytes out_old out_new : Option (List ℕ)) : Type 0 where
+pub record WroteRefusal (fresh : Bool) (script_bytes out_old out_new : Option (List ℕ)) : Type 0 where
   pub line : List ℕ
-  pub due : IsRefusal script_bytes line
+  pub due : IsRefusal fresh script_bytes line
   pub written : out_new ≡ behind out_old line
 
 -- the words ask to run a script, and the output became longer by the line of the refusal of what the host holds
@@ -111,4 +146,23 @@ pub record WroteRefusal (script_bytes out_old out_new : Option (List ℕ)) : Typ
 pub record RanRefused (words : List (List ℕ)) (holds : List ℕ → Option (List ℕ)) (out_old out_new : Option (List ℕ)) : Type 0 where
   pub asked : RunWords
   pub fits : run_words words ≡ Some asked
-  pub wrote : WroteRefusal (holds asked.script) out_old out_new
+  pub wrote : WroteRefusal (is_fresh (origin_of holds asked)) (holds asked.script) out_old out_new
+
+-- the output became longer by the line of an image's refusal, and by nothing else
+pub record WroteImageRefusal (image_bytes out_old out_new : Option (List ℕ)) : Type 0 where
+  pub line : List ℕ
+  pub due : IsImageRefusal image_bytes line
+  pub written : out_new ≡ behind out_old line
+
+-- a script that isn't refused was to go on from an image, and the output became longer by the line of the image's refusal
+pub record IsFromNone (holds : List ℕ → Option (List ℕ)) (asked : RunWords) (out_old out_new : Option (List ℕ)) : Type 0 where
+  pub image : List ℕ
+  pub from : asked.image ≡ Some image
+  pub accepted : IsAccepted false (holds asked.script)
+  pub wrote : WroteImageRefusal (holds image) out_old out_new
+
+-- the words ask for such a run
+pub record RanFromNone (words : List (List ℕ)) (holds : List ℕ → Option (List ℕ)) (out_old out_new : Option (List ℕ)) : Type 0 where
+  pub asked : RunWords
+  pub fits : run_words words ≡ Some asked
+  pub none : IsFromNone holds asked out_old out_new

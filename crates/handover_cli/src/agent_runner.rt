@@ -100,7 +100,7 @@ pub fn run_alone(
 }
 
 /// Gives a kernel's memory back, with that of folios which no object had. Where a frame didn't come home, the memory of
-/// all frames stays taken until the program ends; that this never happens isn't proved yet.
+/// all frames stays taken until the program ends; that this never happens isn't proved.
 pub fn end_kernel(kernel: Kernel, folios: Vec<Folio>)
     requires { AreOf kernel.home folios.items }
 {

@@ -2,13 +2,19 @@
 #![tactic(auto)]
 
 mod agent_runner;
+mod block_runner;
 mod images;
+mod reading;
 mod rebooting;
+mod resuming;
 mod run;
+mod scripts;
+mod status;
 #[cfg(test)]
 mod tests;
 
-use crate::run::{Status, run};
+use crate::run::run;
+use crate::status::Status;
 use ho_io::SystemHost;
 use std::env;
 use std::io::ErrorKind;
@@ -42,6 +48,7 @@ fn main(rt: HostRuntime) -> ExitCode {
             let _ = eprintln!(rt; "handover: write fault");
             5
         }
+        Status::Image => 6,
     };
     ExitCode::from(code)
 }

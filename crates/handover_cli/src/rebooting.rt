@@ -5,6 +5,8 @@ ghost use Rattle.ho_base.specs.declared.limits.TheConstants.{KEXECS};
 ghost use Rattle.ho_events.specs.declared.script.Block.TheVariants.{Kexec};
 ghost use Rattle.freeze_path.specs.Freezes.{IsOfKernel};
 ghost use Rattle.freeze_path.specs.Ready.{IsSoundKernel};
+ghost use Rattle.phys_frames.specs.Memory.{AllHome};
+ghost use Rattle.handover_cli.specs.Images.{IsReadBack};
 ghost use Rattle.handover_cli.specs.Ends.{CanGoOn, CanBoot, DidAndLeft, EndedAs, BootsAs, RunsAs};
 
 use crate::agent_runner::end_kernel;
@@ -12,8 +14,12 @@ use freeze_path::{Freezing, Frozen, freeze, kexec};
 use ho_base::numbers::{AgentNo, Blob, NoMemory};
 use ho_events::entry::Entry;
 use ho_events::slip::At;
+use image_file::law_of_images;
+use kernel_carried::has_no_devices;
 use kexec_boot::{BootError, boot};
+use kho_records::hold_pages;
 use machine_core::Kernel;
+use phys_frames::Frames;
 use scratch_area::Handoff;
 use std::alloc::Global;
 
@@ -39,6 +45,17 @@ pub struct BlockDone {
     pub next: Next,
 }
 
+/// Frames that are home, and an entry number, are what is read from their image. Nothing is done; it costs the number of
+/// frames.
+fn reads_back(frames: &Frames, entry: u32)
+    requires home { AllHome frames.now }
+    ensures { IsReadBack frames.now entry }
+{
+    law_of_images();
+    hold_pages(frames);
+    let _count = frames.count();
+}
+
 /// Hands the frames of a frozen kernel on.
 fn end(kernel: Kernel, frozen: Frozen) -> Ended
     requires made { IsOfKernel kernel frozen }
@@ -46,8 +63,10 @@ fn end(kernel: Kernel, frozen: Frozen) -> Ended
 {
     let number = kernel.number();
     let blob = frozen.blob;
+    let handoff = kexec(kernel, frozen);
+    reads_back(&handoff.frames, handoff.entry.0);
     Ended {
-        handoff: kexec(kernel, frozen),
+        handoff,
         blob,
         kernel: number,
     }
@@ -132,6 +151,14 @@ pub fn go_on(alloc: Global, next: Next) -> Result<Kernel, NoMemory>
         Next::Same(kernel) => Ok(kernel),
         Next::Ended(ended) => boot_next(alloc, ended),
     }
+}
+
+/// Ends a kernel whose world is sound: all its frames come home, and all its memory is given back.
+pub fn end_sound(alloc: Global, kernel: Kernel)
+    requires { IsSoundKernel kernel }
+{
+    has_no_devices(&kernel);
+    kernel.gather(Vec::new(alloc)).end();
 }
 
 /// Gives the memory back of what would go on.

@@ -8,9 +8,11 @@ mod frames;
 mod images;
 mod kernels;
 mod pools;
+mod resumes;
 mod rows;
 
-use crate::run::{Status, run};
+use crate::run::run;
+use crate::status::Status;
 use crate::tests::drip::{DROP_BYTES, Drip};
 use ho_io::MemHost;
 use std::alloc::{AllocError, Global};

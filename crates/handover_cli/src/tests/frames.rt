@@ -1,6 +1,7 @@
 //! What frames hold between two kernels.
 
-use crate::run::{Status, run};
+use crate::run::run;
+use crate::status::Status;
 use crate::tests::host_of;
 use crate::tests::images::{SCRIPT, image_words};
 use ho_base::numbers::{Kind, Token};

@@ -1,6 +1,7 @@
 //! Images that a run makes.
 
-use crate::run::{Status, run};
+use crate::run::run;
+use crate::status::Status;
 use crate::tests::{host_of, run_words};
 use std::alloc::{AllocError, Global};
 use std::test::Fail;

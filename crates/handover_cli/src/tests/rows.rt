@@ -3,7 +3,8 @@
 ghost use Rattle.std.specs.Prelude.{IfOk, IsTrue};
 ghost use Rattle.handover_cli.specs.Shown.{IsHistoryOf};
 
-use crate::run::{Status, run};
+use crate::run::run;
+use crate::status::Status;
 use crate::tests::{HISTORY, SCRIPT, host_of, run_words};
 use std::alloc::{AllocError, Global};
 use std::test::Fail;

@@ -2,7 +2,7 @@
 use Rattle.std.proofs.Common.{ap, ◌∙◌}
 use Rattle.ho_io.specs.Told.{behind}
 use Rattle.handover_cli.proofs.Refused.{line_is, front_of}
-use Rattle.handover_cli.proofs.run.refuse_line.Goals as goal
+use Rattle.handover_cli.proofs.scripts.refuse_line.Goals as goal
 
 pub returns-in-Ok-put_all-clause-whole : goal.returns-in-Ok-put_all-clause-whole
 returns-in-Ok-put_all-clause-whole g c = λ h.
