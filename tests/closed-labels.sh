@@ -88,4 +88,10 @@ printf "${head_lines}memfd m 0\nclosefd m\nmemfd m 0\n" >"$work/script"
 run_program run script
 check "a label that is bound again" 1 "script refused: line 7: label$newline" ""
 
+# A label ends while a session has its file, and a kexec carries the file all the same.
+printf "${head_lines}memfd m 0\nwrite m 0 68656c6c6f\ncreate s\npreserve s 7 m\nclosefd m\nkexec 1 4\nround\nagent a\nopen s\nretrieve s 7 r\nread r 0 5\n" >"$work/script"
+run_program run script
+expect "a file without a label is carried: the end of the label" "0 15 1 5 f0 close_fd = Kept" "$(grep ' f0 close_fd ' "$work/out")"
+expect "a file without a label is carried: its bytes" "1 9 1 8 self done = Ok 68656c6c6f" "$(tail -n 1 "$work/out")"
+
 finish
