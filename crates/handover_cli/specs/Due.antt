@@ -41,7 +41,7 @@ WritesPartFor holds (Some asked) before now =
     WritesPart (origin_of holds asked) (holds asked.script) asked.images (with_all_opened before asked) now
 
 -- the status that is due for a script that isn't refused: from an image on it is that of a run that is done or that of the
--- image's refusal; what these two say of the image excludes one another
+-- image's refusal
 abbrev pub IsDueAccepted : Origin → Status → Type 0
 IsDueAccepted None status = status ≡ Done
 IsDueAccepted (Some image) status = IsOneOf Done Image status

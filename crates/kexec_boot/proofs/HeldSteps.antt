@@ -18,7 +18,7 @@ use Rattle.phys_frames.specs.Homes.{HomeId}
 use Rattle.phys_frames.specs.Memory.{AreOf, FolioValue, first_frames}
 use Rattle.kexec_boot.specs.Files.{FitAll, FitsFolios, bytes_with, state_with, states_with}
 use Rattle.kexec_boot.specs.declared.files.PlainFile.{PlainFile}
-use Rattle.kexec_boot.proofs.Adding.{drop_at as first_left}
+use Rattle.kho_records.proofs.Adding.{drop_at as first_left}
 
 abbrev pub begun : List FileValue → List (Option FileState)
 begun xs = map (λ f. f.start) xs

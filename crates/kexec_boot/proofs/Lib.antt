@@ -1,4 +1,3 @@
-pub mod Adding
 pub mod BootReads
 pub mod BootSteps
 pub mod CarriedParts

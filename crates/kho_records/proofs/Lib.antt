@@ -1,4 +1,4 @@
-mod Adding
+pub mod Adding
 mod Limits
 mod KeptSteps
 mod RunLists

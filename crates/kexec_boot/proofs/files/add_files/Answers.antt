@@ -1,5 +1,5 @@
 use Rattle.std.proofs.Common.{◌++◌, ap, ◌∙◌, arith}
-use Rattle.kexec_boot.proofs.Adding.{ended, one_each}
+use Rattle.kho_records.proofs.Adding.{ended, one_each}
 use Rattle.kexec_boot.specs.Files.{plain_of}
 use Rattle.kexec_boot.proofs.FileSteps.{one_file}
 use Rattle.kexec_boot.proofs.files.add_files.Goals as goal

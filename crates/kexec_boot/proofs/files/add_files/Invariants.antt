@@ -1,4 +1,4 @@
-use Rattle.kexec_boot.proofs.Adding.{Added}
+use Rattle.kho_records.proofs.Adding.{Added}
 use Rattle.kexec_boot.proofs.FileSteps.{one_file}
 use Rattle.kexec_boot.proofs.files.add_files.Given as goal
 

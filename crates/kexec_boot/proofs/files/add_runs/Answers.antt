@@ -1,5 +1,5 @@
 use Rattle.std.proofs.Common.{◌++◌, map, ap, ◌∙◌, arith}
-use Rattle.kexec_boot.proofs.Adding.{ended, one_each}
+use Rattle.kho_records.proofs.Adding.{ended, one_each}
 use Rattle.kexec_boot.proofs.FileSteps.{one_run}
 use Rattle.kexec_boot.proofs.files.add_runs.Goals as goal
 

@@ -1,5 +1,5 @@
 use Rattle.std.proofs.Common.{arith}
-use Rattle.kexec_boot.proofs.Adding.{ended}
+use Rattle.kho_records.proofs.Adding.{ended}
 use Rattle.kexec_boot.specs.Files.{runs_of}
 use Rattle.kexec_boot.proofs.files.add_session.Goals as goal
 

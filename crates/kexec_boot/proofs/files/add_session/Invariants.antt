@@ -1,4 +1,4 @@
-use Rattle.kexec_boot.proofs.Adding.{Added}
+use Rattle.kho_records.proofs.Adding.{Added}
 use Rattle.kexec_boot.specs.Files.{runs_of}
 use Rattle.kexec_boot.proofs.files.add_session.Given as goal
 

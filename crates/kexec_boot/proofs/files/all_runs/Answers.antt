@@ -1,5 +1,5 @@
 use Rattle.std.proofs.Common.{[], arith}
-use Rattle.kexec_boot.proofs.Adding.{ended}
+use Rattle.kho_records.proofs.Adding.{ended}
 use Rattle.kexec_boot.specs.Files.{runs_with}
 use Rattle.kexec_boot.proofs.files.all_runs.Goals as goal
 

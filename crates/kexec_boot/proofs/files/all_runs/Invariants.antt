@@ -1,5 +1,5 @@
 use Rattle.std.proofs.Common.{[]}
-use Rattle.kexec_boot.proofs.Adding.{Added}
+use Rattle.kho_records.proofs.Adding.{Added}
 use Rattle.kexec_boot.specs.Files.{runs_with}
 use Rattle.kexec_boot.proofs.files.all_runs.Given as goal
 

@@ -1,5 +1,5 @@
 use Rattle.std.proofs.Common.{[]}
-use Rattle.kexec_boot.proofs.Adding.{Added}
+use Rattle.kho_records.proofs.Adding.{Added}
 use Rattle.kexec_boot.specs.Files.{plain_with}
 use Rattle.kexec_boot.proofs.files.plain_files.Given as goal
 

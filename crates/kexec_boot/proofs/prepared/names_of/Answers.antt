@@ -1,5 +1,5 @@
 use Rattle.std.proofs.Common.{[], ◌∙◌, arith}
-use Rattle.kexec_boot.proofs.Adding.{ended, one_each}
+use Rattle.kho_records.proofs.Adding.{ended, one_each}
 use Rattle.kexec_boot.proofs.FileSteps.{one_name, name_of}
 use Rattle.kexec_boot.proofs.prepared.names_of.Goals as goal
 

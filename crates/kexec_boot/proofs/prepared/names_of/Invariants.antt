@@ -1,5 +1,5 @@
 use Rattle.std.proofs.Common.{[]}
-use Rattle.kexec_boot.proofs.Adding.{Added}
+use Rattle.kho_records.proofs.Adding.{Added}
 use Rattle.kexec_boot.proofs.FileSteps.{one_name}
 use Rattle.kexec_boot.proofs.prepared.names_of.Given as goal
 
