@@ -5,8 +5,8 @@ ghost use Rattle.std.specs.Prelude.{◌≡◌, IfOk};
 use ho_base::bytes::put_u64;
 use ho_base::numbers::Pfn;
 use ho_base::shape::{Area, Shape};
-use ho_io::{Host, MemHost};
-use image_file::{ImageError, law_of_images, read_image, write_image};
+use ho_io::{Host, MemHost, MemSource};
+use image_file::{ImageError, LoadError, law_of_images, load_image, read_image, write_image};
 use phys_frames::Frames;
 use scratch_area::Handoff;
 use std::alloc::{AllocError, Global};
@@ -50,6 +50,22 @@ fn entry_in(alloc: Global, bytes: &[u8]) -> Result<u64, ImageError> {
     }
 }
 
+/// The entry number that is read from a source of these bytes, or why nothing is; a source doesn't fail by itself.
+fn loaded_in(alloc: Global, bytes: &[u8]) -> Result<u64, ImageError> {
+    let Ok(bytes) = Vec::from_slice(alloc, bytes) else {
+        return Err(ImageError::Memory);
+    };
+    let mut source = MemSource::new(bytes, Vec::new(alloc));
+    match load_image(alloc, &mut source) {
+        Ok((frames, entry)) => {
+            frames.end();
+            Ok(entry)
+        }
+        Err(LoadError::Image(error)) => Err(error),
+        Err(LoadError::Fault) => Err(ImageError::Memory),
+    }
+}
+
 /// So many bytes: a header with another first byte and these numbers, and then zeros.
 fn bytes_of(
     alloc: Global,
@@ -79,7 +95,7 @@ fn an_image_is_written_and_read_back(rt: HostRuntime) -> Result<(), Fail> {
         shape,
         entry: Pfn(9),
     };
-    for (fails, len) in [(0, 262_176), (1, 0), (2, 32), (4, 8_224), (65, 258_080)] {
+    for (fails, len) in [(0, 262_176), (1, 0), (2, 32), (4, 131_104), (5, 196_640)] {
         let (done, image) = written(rt.alloc(), &handoff, fails).expect(&rt, "memory");
         assert_eq!(rt; done, fails == 0, "at {fails}");
         assert_eq!(rt; image.len(), len, "at {fails}");
@@ -126,6 +142,11 @@ fn bytes_are_read_or_refused(rt: HostRuntime) -> Result<(), Fail> {
     ] {
         let bytes = bytes_of(rt.alloc(), len, first, numbers)?;
         assert_eq!(rt; entry_in(rt.alloc(), &bytes), want, "at {len} bytes");
+        assert_eq!(rt;
+            loaded_in(rt.alloc(), &bytes),
+            want,
+            "of a source of {len} bytes"
+        );
     }
     Ok(())
 }

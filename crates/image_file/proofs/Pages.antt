@@ -1,8 +1,10 @@
 -- Bytes cut into pages, and pages joined to bytes.
 use Rattle.std.proofs.Common.{◌≡◌, ℕ, zero, suc, ◌+◌, ◌*◌, ◌-◌, ◌<◌, ◌≤◌, List, [], ◌∷◌, ◌++◌, length, map, take, drop, get_or, set, Option, Some, None, refl, sym, ap, subst, ◌∙◌, arith, append_assoc}
 use native.Mathlib.Nat.{zero-mul, suc-mul}
-use Rattle.std.proofs.lemmas.List.{append-nil, length-drop, length-append, length-map, take-append-drop, take_at, drop_at, drop-drop, drop_all, set_at, drop_more, take_more, get_or_at, map-append}
+use Rattle.std.proofs.lemmas.List.{append-nil, length-drop, length-append, length-map, take-append-drop, take_at, drop_at, drop-drop, drop_all, set_at, drop_more, take_more, take_all, get_or_at, map-append}
 use Rattle.std.proofs.lemmas.Grind.{flat_map-append}
+use Rattle.std.proofs.lemmas.Slice.{take-put_mid}
+use borrow.Rule.Slice.PartMut.{put_mid}
 use Rattle.std.specs.List.{All, flat_map}
 use Rattle.std.specs.Option.{IsSome}
 use Rattle.std.proofs.lemmas.List.Elements.{All-nil, All-cons, All-head, All-tail}
@@ -61,13 +63,17 @@ joined_more pages i page lt e =
     ∙ ap (λ (o : Option (List ℕ)). flat_map page_bytes (take i pages) ++ (page_bytes o ++ [])) e
     ∙ ap (λ (l : List ℕ). flat_map page_bytes (take i pages) ++ l) (append-nil page)
 
--- the frames before one, this one, and those after it
-pub joined_around : (pages : Pages) (i : ℕ) (page : List ℕ) → i < length pages → get_or pages i None ≡ Some page
-    → flat_map page_bytes pages ≡ flat_map page_bytes (take i pages) ++ (page ++ flat_map page_bytes (drop (i + 1) pages))
-joined_around pages i page lt e =
-    ap (flat_map page_bytes) (sym (take-append-drop i pages) ∙ ap (λ (l : Pages). take i pages ++ l) (drop_more pages i None lt))
-    ∙ flat_map-append page_bytes (take i pages) (get_or pages i None ∷ drop (i + 1) pages)
-    ∙ ap (λ (o : Option (List ℕ)). flat_map page_bytes (take i pages) ++ (page_bytes o ++ flat_map page_bytes (drop (i + 1) pages))) e
+-- one more frame was put behind those before it
+pub gathered_more : (size i width : ℕ) (pages : Pages) (page block next : List ℕ) → i < length pages → get_or pages i None ≡ Some page → length page ≡ size → i * size ≤ length block
+    → take (i * size) block ≡ flat_map page_bytes (take i pages) → next ≡ put_mid (i * size) width block page → take ((i + 1) * size) next ≡ flat_map page_bytes (take (i + 1) pages)
+gathered_more size i width pages page block next lt e wide le h is =
+    let more : i + 1 ≡ suc i = omega arith in
+    let end : (i + 1) * size ≡ i * size + length page = ap (λ (k : ℕ). k * size) more ∙ omega (arith, suc-mul i size, wide) in
+    ap (take ((i + 1) * size)) is ∙ take-put_mid (i * size) width block page ((i + 1) * size) end le ∙ ap (λ (l : List ℕ). l ++ page) h ∙ sym (joined_more pages i page lt e)
+
+-- all frames were put
+pub gathered_all : (size n : ℕ) (pages : Pages) (block : List ℕ) → length block ≡ n * size → take (n * size) block ≡ flat_map page_bytes (take n pages) → block ≡ flat_map page_bytes (take n pages)
+gathered_all size n pages block wide h = sym (take_all (n * size) block (omega (arith, wide))) ∙ h
 
 -- a frame that was not filled yet is as it was
 pub kept_page : (size i : ℕ) (bytes : List ℕ) (old now : Pages) → i < length old → now ≡ map Some (chunks size i bytes) ++ drop i old → get_or now i None ≡ get_or old i None

@@ -1,13 +1,13 @@
 -- What several writes in turn come to.
 use Rattle.std.proofs.Common.{◌≡◌, ℕ, ◌+◌, ◌<◌, List, ◌++◌, [], length, take, drop, get_or, Option, Some, None, Result, Ok, Err, refl, sym, ap, subst, ◌∙◌, arith, append_assoc}
-use Rattle.std.proofs.lemmas.List.{append-nil, length-append, take-append-le}
-use Rattle.std.proofs.Math.Seq.{take-append-add}
-use Rattle.std.specs.Prelude.{OnOk, OnErr}
+use Rattle.std.proofs.lemmas.List.{append-nil, length-append, take-append-le, take-append-drop}
+use Rattle.std.proofs.Math.Seq.{take-add, take-append-add}
+use Rattle.std.proofs.lemmas.Grind.{flat_map-append}
+use Rattle.std.specs.Prelude.{OnOk, OnErr, IfErr}
 use Rattle.std.specs.List.{flat_map}
 use Rattle.ho_io.specs.Told.{behind}
 use Rattle.image_file.specs.Image.{Pages, page_bytes, header, image}
 use Rattle.image_file.specs.Written.{WrotePart}
-use Rattle.image_file.proofs.Pages.{joined_more, joined_around}
 
 -- two pieces in turn are one piece
 pub behind_both : (told : Option (List ℕ)) (a b : List ℕ) → behind (behind told a) b ≡ behind told (a ++ b)
@@ -39,19 +39,24 @@ unfolding behind
 nothing_yet None = refl
 nothing_yet (Some told) = ap Some (sym (append-nil told))
 
--- the bytes of the frames so far, and all of one more
-pub all_more : (first before now : Option (List ℕ)) (pages : Pages) (i : ℕ) (page : List ℕ) → i < length pages → get_or pages i None ≡ Some page
-    → before ≡ behind first (flat_map page_bytes (take i pages)) → now ≡ behind before page → now ≡ behind first (flat_map page_bytes (take (i + 1) pages))
-all_more first before now pages i page lt e f h =
-    all_both first before now (flat_map page_bytes (take i pages)) page f h ∙ ap (behind first) (sym (joined_more pages i page lt e))
+-- the bytes of the frames so far, and all of a run of frames more
+pub all_more : (first before now : Option (List ℕ)) (pages : Pages) (i n : ℕ)
+    → before ≡ behind first (flat_map page_bytes (take i pages)) → now ≡ behind before (flat_map page_bytes (take n (drop i pages))) → now ≡ behind first (flat_map page_bytes (take (i + n) pages))
+all_more first before now pages i n f h =
+    all_both first before now (flat_map page_bytes (take i pages)) (flat_map page_bytes (take n (drop i pages))) f h
+    ∙ ap (behind first) (sym (ap (flat_map page_bytes) (take-add i n pages) ∙ flat_map-append page_bytes (take i pages) (take n (drop i pages))))
 
--- the bytes of the frames so far, and a part of one more
-pub part_more : (first before now : Option (List ℕ)) (pages : Pages) (i : ℕ) (page : List ℕ) → i < length pages → get_or pages i None ≡ Some page
-    → before ≡ behind first (flat_map page_bytes (take i pages)) → WrotePart before now page → WrotePart first now (flat_map page_bytes pages)
-part_more first before now pages i page lt e f part =
-    let rest = flat_map page_bytes (drop (i + 1) pages) in
-    subst (λ (l : List ℕ). WrotePart first now l) (sym (joined_around pages i page lt e))
-    (part_back first before now (flat_map page_bytes (take i pages)) (page ++ rest) f (part_front before now page rest part))
+-- the bytes of the frames so far, and a part of a run of frames more
+pub part_more : (first before now : Option (List ℕ)) (pages : Pages) (i n : ℕ)
+    → before ≡ behind first (flat_map page_bytes (take i pages)) → WrotePart before now (flat_map page_bytes (take n (drop i pages))) → WrotePart first now (flat_map page_bytes pages)
+part_more first before now pages i n f part =
+    let run = flat_map page_bytes (take n (drop i pages)) in
+    let rest = flat_map page_bytes (drop n (drop i pages)) in
+    let around : flat_map page_bytes pages ≡ flat_map page_bytes (take i pages) ++ (run ++ rest) =
+    ap (flat_map page_bytes) (sym (take-append-drop i pages)) ∙ flat_map-append page_bytes (take i pages) (drop i pages)
+    ∙ ap (λ (l : List ℕ). flat_map page_bytes (take i pages) ++ l) (ap (flat_map page_bytes) (sym (take-append-drop n (drop i pages))) ∙ flat_map-append page_bytes (take n (drop i pages)) (drop n (drop i pages))) in
+    subst (λ (l : List ℕ). WrotePart first now l) (sym around)
+    (part_back first before now (flat_map page_bytes (take i pages)) (run ++ rest) f (part_front before now run rest part))
 
 -- the header alone, a part of it, and all or a part of the frames after it
 module _ (first now : Option (List ℕ)) (pages : Pages) (count entry : ℕ) (head : List ℕ) (is : head ≡ header count entry) (same : count ≡ length pages) where
@@ -84,3 +89,7 @@ on_err (Err e) f p = f p
 pub of_err : {T E P : Type 0} (r : Result T E) → P → OnErr r P
 of_err (Ok x) p = tt
 of_err (Err e) p = p
+
+pub if_err : {T E : Type 0} (P Q : E → Type 0) → ((e : E) → P e → Q e) → (r : Result T E) → IfErr r P → IfErr r Q
+if_err P Q f (Ok x) p = p
+if_err P Q f (Err e) p = f e p

@@ -69,7 +69,7 @@ fn fault_in(bytes: &[u8]) -> Option<ImageError>
 
 /// Whether these bytes begin with a header.
 #[tactic(auto, unfolding(crate::specs::Image::has_header))]
-fn has_header(bytes: &[u8]) -> bool
+pub(crate) fn has_header(bytes: &[u8]) -> bool
     ensures exact { result ≡ header_rule bytes.now }
     ensures long { IsTrue result → 32 ≤ length bytes.now }
     ensures least { IsTrue result → MIN_FRAMES ≤ count_of bytes.now }
@@ -93,7 +93,7 @@ fn begins_with_word(bytes: &[u8]) -> bool
 
 /// How many frames a header says.
 #[tactic(auto, unfolding(crate::specs::Image::count_of))]
-fn count_in(bytes: &[u8]) -> u64
+pub(crate) fn count_in(bytes: &[u8]) -> u64
     requires { 32 ≤ length bytes.now }
     ensures { result ≡ count_of bytes.now }
 {
@@ -102,7 +102,7 @@ fn count_in(bytes: &[u8]) -> u64
 
 /// The entry number of a header.
 #[tactic(auto, unfolding(crate::specs::Image::entry_of))]
-fn entry_in(bytes: &[u8]) -> u64
+pub(crate) fn entry_in(bytes: &[u8]) -> u64
     requires { 32 ≤ length bytes.now }
     ensures { result ≡ entry_of bytes.now }
 {
@@ -146,7 +146,7 @@ fn fill(frames: &mut Frames, bytes: &[u8])
 }
 
 /// Puts bytes into one frame.
-fn fill_page(frames: &mut Frames, p: Pfn, bytes: &[u8])
+pub(crate) fn fill_page(frames: &mut Frames, p: Pfn, bytes: &[u8])
     requires home { IsHome frames.old p }
     requires size { length bytes.now ≡ PAGE_BYTES }
     ensures { frames.new ≡ with_page frames.old p bytes.now }
