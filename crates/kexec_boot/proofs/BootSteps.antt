@@ -12,7 +12,7 @@ use Rattle.record_frames.specs.Carries.{Carries}
 use Rattle.record_frames.specs.Sheeted.{ram_of}
 use Rattle.record_frames.specs.declared.place.ImagePlace.{ImagePlace}
 use Rattle.scratch_area.specs.declared.handoff.Handoff.{Handoff}
-use Rattle.scratch_laws.specs.Scratch.{StayBeside, ScratchIsFree}
+use Rattle.next_laws.specs.Scratch.{StayBeside, ScratchIsFree}
 use Rattle.next_laws.specs.Begins.{are_memfds}
 use Rattle.kexec_boot.specs.Begins.{BeginsAs}
 use Rattle.kexec_boot.specs.Loaded.{with_blob}

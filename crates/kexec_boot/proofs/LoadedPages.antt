@@ -14,7 +14,7 @@ use Rattle.phys_frames.specs.Memory.{Memory, AllHome, page_at}
 use Rattle.record_frames.specs.Sheeted.{ram_of, page_of, page_bytes}
 use Rattle.scratch_area.specs.BlobPages.{HoldsBlob, OthersStay, blob_page}
 use Rattle.scratch_area.specs.EarlyFrames.{EarlyFrames, area_0, none_taken}
-use Rattle.scratch_laws.specs.Scratch.{StayBeside}
+use Rattle.next_laws.specs.Scratch.{StayBeside}
 use Rattle.kexec_boot.specs.Loaded.{blob_at, is_blob_frame, with_blob}
 
 -- a frame of the program is one of scratch area 0, below the end of the frames

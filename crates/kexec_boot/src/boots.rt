@@ -21,12 +21,12 @@ use kho_records::hold_pages;
 use machine_core::Kernel;
 use next_laws::begins::{law_of_sessions, law_of_the_pool, law_of_the_registry};
 use next_laws::follows::law_of_following;
+use next_laws::law_of_scratch;
 use phys_frames::{Folio, Frames};
 use pool_core::Pool;
 use record_frames::Carried;
 use record_frames::laws::law_of_carrying;
 use scratch_area::Handoff;
-use scratch_laws::law_of_scratch;
 use std::alloc::Global;
 
 /// Boots a kernel of this number from what an earlier one handed over. It begins in scratch area 0 alone: the program is

@@ -4,7 +4,7 @@ ghost use Rattle.std.specs.Prelude.{◌≡◌, ◌≤◌, length};
 ghost use Rattle.ho_world.specs.Frozen.{scratch_need as need_of, scratch_have};
 ghost use Rattle.phys_frames.specs.Memory.{AllHome};
 ghost use Rattle.record_frames.specs.Sheeted.{ram_of};
-ghost use Rattle.scratch_laws.specs.Scratch.{StayBeside};
+ghost use Rattle.next_laws.specs.Scratch.{StayBeside};
 ghost use Rattle.kexec_boot.specs.Loaded.{with_blob};
 
 use ho_base::numbers::Blob;

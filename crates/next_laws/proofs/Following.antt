@@ -22,7 +22,7 @@ use Rattle.record_frames.specs.Owners.{single, given, file_runs, run_holds, is_o
 use Rattle.record_frames.specs.Carries.{Keep}
 use Rattle.record_frames.specs.Laws.{Holds}
 use Rattle.session_core.specs.SessionShown.{TokensRise}
-use Rattle.scratch_laws.proofs.OffScratch.{all_at, few, user_off}
+use Rattle.next_laws.proofs.OffScratch.{all_at, few, user_off}
 use Rattle.next_laws.specs.Begins.{is_memfd, run_of, all_runs, NoBounds, names_of, numbered}
 use Rattle.next_laws.specs.Follows.{CanBegin, CarriedCanBegin, FitsFile}
 use Rattle.next_laws.proofs.Names.{rise_map, names_differ, tokens_sorted}

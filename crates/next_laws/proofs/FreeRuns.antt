@@ -18,7 +18,7 @@ use Rattle.pool_frames.specs.PoolAdopting.{ApartRuns, CanAdopt}
 use Rattle.pool_frames.proofs.PoolFree.{of_each}
 use Rattle.record_frames.specs.Rules.{is_run}
 use Rattle.record_frames.specs.Owners.{run_holds}
-use Rattle.scratch_laws.proofs.OffScratch.{some_counted}
+use Rattle.next_laws.proofs.OffScratch.{some_counted}
 
 -- a run is of a known order, and one of n frames
 abbrev pub may_be : ℕ → Run → Bool

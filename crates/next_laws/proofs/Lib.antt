@@ -1,3 +1,5 @@
+pub mod OffScratch
+pub mod Stays
 pub mod Inserted
 pub mod NextParts
 pub mod LastFronts

@@ -18,8 +18,8 @@ use Rattle.std.proofs.Common.{Option, Some, None}
 use Rattle.ho_events.specs.Handler.{BoundState}
 use Rattle.record_frames.specs.Owners.{users, single, given, file_runs, run_holds, is_owned_well, all_owned_well}
 use Rattle.record_frames.specs.Carries.{HavePages, Keep, SpellChain, SpellRecords}
-use Rattle.scratch_laws.specs.Scratch.{StayBeside, ScratchIsFree}
-use Rattle.scratch_laws.proofs.OffScratch.{all_at, user_off, chunk_off}
+use Rattle.next_laws.specs.Scratch.{StayBeside, ScratchIsFree}
+use Rattle.next_laws.proofs.OffScratch.{all_at, user_off, chunk_off}
 
 -- ---- facts of all numbers of a list
 

@@ -1,7 +1,6 @@
-//! A law of scratch areas: what is written into them changes nothing that is carried.
-#![tactic(auto)]
+//! What is written into scratch areas changes nothing that is carried.
 
-ghost use Rattle.scratch_laws.specs.Scratch.{ScratchIsFree};
+ghost use Rattle.next_laws.specs.Scratch.{ScratchIsFree};
 
 /// Frames that carry a state carry it too where only frames of its scratch areas were written: no frame of the entry,
 /// the records, the bound records or the files is one of a scratch area. Nothing is done.

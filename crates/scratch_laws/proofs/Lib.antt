@@ -1,2 +1,0 @@
-pub mod OffScratch
-pub mod Stays

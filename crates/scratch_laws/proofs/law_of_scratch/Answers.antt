@@ -1,5 +1,0 @@
-use Rattle.scratch_laws.proofs.Stays.{scratch_is_free}
-use Rattle.scratch_laws.proofs.law_of_scratch.Goals as goal
-
-pub returns : goal.returns
-returns c = scratch_is_free
