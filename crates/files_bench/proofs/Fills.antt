@@ -11,7 +11,7 @@ use Rattle.ho_base.specs.declared.numbers.Order.{Order}
 use Rattle.ho_base.specs.declared.numbers.Pfn.{Pfn}
 use Rattle.phys_frames.specs.Homes.{HomeId}
 use Rattle.phys_frames.specs.Memory.{FolioValue, zero_page}
-use Rattle.pool_frames.specs.PoolLending.{zeroed_run, zero_pages}
+use Rattle.pool_core.specs.PoolLending.{zeroed_run, zero_pages}
 use Rattle.file_folios.specs.FileAnswers.{AreFillsOf}
 
 blank_bytes : (o : Order) → zero_pages (2 ^ o.0) ≡ replicate (PAGE_BYTES * 2 ^ o.0) 0

@@ -10,7 +10,7 @@ use crate::storage::{cold_pool, fills_for, give_up};
 use file_folios::FileFolios;
 use ho_base::numbers::Order;
 use ho_events::reply::Reply;
-use pool_frames::PoolFrames;
+use pool_core::PoolFrames;
 use std::alloc::{AllocError, Global};
 use std::io;
 use std::time::{Clock, Instant};

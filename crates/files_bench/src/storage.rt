@@ -8,7 +8,7 @@ use file_folios::FileFolios;
 use ho_base::numbers::{Order, Pfn};
 use ho_base::shape::{Area, Shape};
 use phys_frames::{Folio, Frames};
-use pool_frames::PoolFrames;
+use pool_core::PoolFrames;
 use std::alloc::{AllocError, Global};
 
 /// How many frames the pool has: twice those of the largest file, so that there are runs enough at order 9 too.

@@ -15,7 +15,7 @@ use Rattle.ho_world.specs.Acts.{single}
 use Rattle.ho_world.specs.Logs.{deed_at, end_with}
 use Rattle.phys_frames.specs.Homes.{HomeId}
 use Rattle.phys_frames.specs.Memory.{zeroed, zero_page}
-use Rattle.pool_frames.specs.PoolLending.{zeroed_run, zero_pages}
+use Rattle.pool_core.specs.PoolLending.{zeroed_run, zero_pages}
 use Rattle.machine_core.specs.Agents.{Agent, Found, IsTold, with_at, took, HasEnded, GaveBack}
 use Rattle.machine_core.specs.Objects.{history_of, known_of}
 use Rattle.machine_core.specs.declared.object.Object.{Object}

@@ -15,7 +15,7 @@ use Rattle.ho_events.specs.File.{FileState, filled}
 use Rattle.ho_events.specs.Lists.{upto, firsts, pieces}
 use Rattle.ho_world.specs.Frozen.{CarriedFile as FileOf, CarriedSession as SessionOf, held}
 use Rattle.phys_frames.specs.Memory.{AreOf, Memory, FolioValue, first_frames}
-use Rattle.pool_frames.specs.PoolAdopting.{adopted_run, bytes_at}
+use Rattle.pool_core.specs.PoolAdopting.{adopted_run, bytes_at}
 use Rattle.record_frames.specs.Ram.{Ram, run_bytes}
 use Rattle.record_frames.specs.Sheeted.{ram_of, page_bytes}
 use Rattle.record_frames.specs.State.{file_in, session_in, state_in}

@@ -16,7 +16,7 @@ use Rattle.ho_world.specs.World.{Nothing, PoolIn, RegistryIn, HandlerIn, Session
 use Rattle.machine_core.specs.Kernels.{if_built, slot_state, begins_with}
 use Rattle.machine_core.specs.Objects.{PoolSpot, RegistrySpot, SessionSpot, FileSpot, NoSpot, spot_at}
 use Rattle.phys_frames.specs.Memory.{Memory}
-use Rattle.pool_frames.specs.PoolAdopting.{adopted_pool, adopted_run}
+use Rattle.pool_core.specs.PoolAdopting.{adopted_pool, adopted_run}
 use Rattle.record_frames.specs.Ram.{Ram}
 use Rattle.record_frames.specs.Sheeted.{ram_of}
 use Rattle.record_frames.specs.State.{file_in, session_in, state_in}

@@ -13,7 +13,7 @@ use Rattle.machine_core.specs.Kernels.{KernelValue, begins_with, begun_in, histo
 use Rattle.machine_core.specs.LabelsShown.{agent_count}
 use Rattle.phys_frames.specs.Homes.{HomeId}
 use Rattle.phys_frames.specs.Memory.{Memory, FolioValue}
-use Rattle.pool_frames.specs.PoolAdopting.{CanAdopt, adopted_pool, adopted_run}
+use Rattle.pool_core.specs.PoolAdopting.{CanAdopt, adopted_pool, adopted_run}
 use Rattle.record_frames.specs.Sheeted.{ram_of}
 use Rattle.record_frames.specs.State.{state_in}
 use Rattle.record_frames.specs.declared.carried.Carried.{Carried}

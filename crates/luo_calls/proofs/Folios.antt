@@ -12,7 +12,7 @@ use Rattle.ho_events.specs.File.{FileState}
 use Rattle.ho_events.specs.Lists.{firsts}
 use Rattle.phys_frames.specs.Homes.{HomeId}
 use Rattle.phys_frames.specs.Memory.{AreOf, FolioValue, first_frames}
-use Rattle.pool_frames.specs.PoolLending.{zeroed_run, zero_pages}
+use Rattle.pool_core.specs.PoolLending.{zeroed_run, zero_pages}
 use Rattle.file_folios.specs.FileAnswers.{AreFillsOf, folio_at}
 
 -- folios of one home, as the pool asks for them

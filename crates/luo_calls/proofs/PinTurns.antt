@@ -26,7 +26,7 @@ use Rattle.ho_world.specs.Sequences.Files.{fits_file}
 use Rattle.ho_world.specs.Sequences.Preserving.{is_pin_refusal, no_or_fits, take_holes}
 use Rattle.phys_frames.specs.Homes.{HomeId}
 use Rattle.phys_frames.specs.Memory.{AreOf, FolioValue, first_frames}
-use Rattle.pool_frames.specs.PoolLending.{zeroed_run}
+use Rattle.pool_core.specs.PoolLending.{zeroed_run}
 use Rattle.file_folios.specs.FileAnswers.{AreFillsOf, IsPinAnswer, facts_of, pin_left, pin_used}
 use Rattle.file_folios.specs.declared.facts.Facts.{Facts}
 use Rattle.machine_core.specs.declared.object.Object.{Object}

@@ -24,7 +24,7 @@ use Rattle.ho_world.specs.Logs.{deed_at, Deed}
 use Rattle.ho_world.specs.Sequences.Files.{fits_range}
 use Rattle.phys_frames.specs.Homes.{HomeId}
 use Rattle.phys_frames.specs.Memory.{AreOf, FolioValue, first_frames}
-use Rattle.pool_frames.specs.PoolLending.{zeroed_run}
+use Rattle.pool_core.specs.PoolLending.{zeroed_run}
 use Rattle.file_folios.specs.FileAnswers.{AreFillsOf, facts_of, write_answer, fills_used, fills_left}
 use Rattle.machine_core.specs.declared.object.Object.{Object}
 use Rattle.machine_core.specs.Agents.{Agent}

@@ -13,7 +13,7 @@ use Rattle.ho_events.specs.Handler.{BoundState}
 use Rattle.ho_events.specs.Lists.{same_bytes}
 use Rattle.ho_world.specs.Frozen.{CarriedFile, CarriedSession, Frozen, carried_files}
 use Rattle.folio_bitmaps.specs.Runs.{Run}
-use Rattle.pool_frames.specs.PoolAdopting.{CanAdopt}
+use Rattle.pool_core.specs.PoolAdopting.{CanAdopt}
 use Rattle.record_frames.specs.Ram.{Ram}
 use Rattle.record_frames.specs.Sheets.{FileRecord, SessionRecord, record_numbers, kind_number}
 use Rattle.record_frames.specs.Rules.{version_1, is_run}

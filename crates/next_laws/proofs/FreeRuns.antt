@@ -14,8 +14,8 @@ use Rattle.ho_base.specs.declared.numbers.Order.{Order}
 use Rattle.ho_events.specs.Lists.{upto, is_just}
 use Rattle.ho_events.specs.Pool.{cold_pool, is_free, is_free_run, frames_of, run_start}
 use Rattle.folio_bitmaps.specs.Runs.{Run}
-use Rattle.pool_frames.specs.PoolAdopting.{ApartRuns, CanAdopt}
-use Rattle.pool_frames.proofs.PoolFree.{of_each}
+use Rattle.pool_core.specs.PoolAdopting.{ApartRuns, CanAdopt}
+use Rattle.pool_core.proofs.PoolFree.{of_each}
 use Rattle.record_frames.specs.Rules.{is_run}
 use Rattle.record_frames.specs.Owners.{run_holds}
 use Rattle.next_laws.proofs.OffScratch.{some_counted}

@@ -17,7 +17,7 @@ use Rattle.ho_events.specs.Pool.{own}
 use Rattle.ho_events.specs.Registry.{Slots}
 use Rattle.ho_events.specs.Session.{In, Listed}
 use Rattle.ho_world.specs.Frozen.{CarriedFile, CarriedSession, carried_files, next_listed, next_waiting, numbers_below, own_files, own_bounds}
-use Rattle.pool_frames.specs.PoolAdopting.{owned_at}
+use Rattle.pool_core.specs.PoolAdopting.{owned_at}
 use Rattle.registry_core.specs.Registries.{slotted_from}
 use Rattle.session_core.specs.SessionShown.{listed}
 use Rattle.next_laws.specs.Begins.{run_of, runs_with, all_runs, NoBounds, names_of, numbered, PoolIsNext, RegistryIsNext, SessionIsNext}

@@ -12,7 +12,7 @@ use Rattle.ho_events.specs.Lists.{same_bytes}
 use Rattle.ho_events.specs.Handler.{BoundState}
 use Rattle.ho_events.specs.Session.{In}
 use Rattle.ho_world.specs.Frozen.{CarriedFile, CarriedSession, Frozen, carried_files, next_pool, next_registry, next_listed}
-use Rattle.pool_frames.specs.PoolAdopting.{adopted_pool}
+use Rattle.pool_core.specs.PoolAdopting.{adopted_pool}
 use Rattle.registry_core.specs.Registries.{waiting_registry}
 use Rattle.session_core.specs.SessionShown.{TokensRise}
 use Rattle.session_core.specs.Sessions.{fresh_incoming}

@@ -4,7 +4,7 @@ use Rattle.std.specs.List.{IsDistinct, AllByRecursion}
 use Rattle.ho_base.specs.declared.limits.TheConstants.{PAGE_BYTES, MAX_ORDER, FILE_BYTES, IN_SLOTS, FILES}
 use Rattle.ho_events.specs.Lists.{same_bytes, pieces}
 use Rattle.ho_world.specs.Frozen.{CarriedFile, Frozen, carried_files}
-use Rattle.pool_frames.specs.PoolAdopting.{CanAdopt}
+use Rattle.pool_core.specs.PoolAdopting.{CanAdopt}
 use Rattle.record_frames.specs.Ram.{Ram}
 use Rattle.record_frames.specs.Carries.{Carries}
 use Rattle.record_frames.specs.Laws.{Holds}

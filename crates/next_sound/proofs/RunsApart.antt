@@ -11,8 +11,8 @@ use Rattle.ho_base.specs.declared.numbers.Pfn.{Pfn}
 use Rattle.ho_base.specs.declared.numbers.Order.{Order}
 use Rattle.ho_events.specs.Pool.{cold_pool, is_free, is_free_run, is_owned, frames_of}
 use Rattle.ho_world.specs.Frozen.{CarriedFile, Frozen, carried_files, next_pool}
-use Rattle.pool_frames.specs.PoolAdopting.{ApartRuns, CanAdopt}
-use Rattle.pool_frames.proofs.PoolFree.{each_of}
+use Rattle.pool_core.specs.PoolAdopting.{ApartRuns, CanAdopt}
+use Rattle.pool_core.proofs.PoolFree.{each_of}
 use Rattle.next_laws.specs.Begins.{run_of, runs_with, all_runs, NoBounds}
 use Rattle.balance_laws.specs.Carrying.{In, Distinct, NoneShared}
 use Rattle.balance_laws.specs.Sound.{IsUsable, RunFits, RunsFit}

@@ -1,1 +1,14 @@
+pub mod PoolOwned
+pub mod PoolHeld
+pub mod PoolHome
+pub mod PoolLends
+pub mod PoolFree
+pub mod PoolSteps
+pub mod PoolCold
+pub mod PoolTaken
+pub mod PoolMarks
+pub mod PoolPasses
+pub mod PoolMarking
+pub mod PoolAsking
+pub mod PoolAdopts
 pub mod PoolRuns

@@ -15,12 +15,12 @@ use Rattle.ho_events.specs.declared.event.Event.TheVariants.{PoolTake, PoolGive,
 use Rattle.ho_events.specs.declared.reply.Reply.{Reply}
 use Rattle.ho_events.specs.declared.reply.Reply.TheVariants.{Ok, Got, NoFrames}
 use Rattle.ho_events.proofs.Runs.{run_push}
-use Rattle.pool_frames.specs.PoolFramesValues.{PoolFramesValue, with_owned, with_disowned, with_pinned, with_unpinned}
+use Rattle.pool_core.specs.PoolFramesValues.{PoolFramesValue, with_owned, with_disowned, with_pinned, with_unpinned}
 use Rattle.std.specs.Prelude.{map}
 use Rattle.std.specs.List.{All}
 use Rattle.std.proofs.lemmas.List.Elements.{All-map}
 use Rattle.phys_frames.specs.Homes.{HomeId}
-use Rattle.pool_frames.specs.PoolLending.{zeroed_run}
+use Rattle.pool_core.specs.PoolLending.{zeroed_run}
 use Rattle.pool_core.specs.PoolValues.{KeepsPool}
 
 -- a history with no entries leads to the state that it begins with

@@ -3,13 +3,13 @@
 ghost use Rattle.std.specs.Prelude.{◌≡◌, ◌+◌, ◌≤◌, ◌++◌, [], IfOk, IfErr, length, map};
 ghost use Rattle.std.specs.Vec.{vec_len, vec_capacity};
 ghost use Rattle.phys_frames.specs.Memory.{AllHome};
-ghost use Rattle.pool_frames.specs.PoolAdopting.{CanAdopt, adopted_pool, adopted_run};
+ghost use Rattle.pool_core.specs.PoolAdopting.{CanAdopt, adopted_pool, adopted_run};
 
+use crate::frames::PoolFrames;
 use crate::pool::Pool;
 use ho_base::numbers::{Order, Pfn};
 use ho_base::shape::Shape;
 use phys_frames::{Folio, Frames};
-use pool_frames::PoolFrames;
 use std::alloc::Global;
 
 impl Pool {

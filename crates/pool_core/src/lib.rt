@@ -3,6 +3,8 @@
 
 mod adopting;
 mod asking;
+mod frames;
 mod pool;
 
+pub use frames::PoolFrames;
 pub use pool::Pool;

@@ -6,7 +6,7 @@ ghost use Rattle.ho_base.specs.Objects.{pool_no};
 ghost use Rattle.ho_base.specs.declared.limits.TheConstants.{MAX_ORDER};
 ghost use Rattle.ho_world.specs.Logs.{deed_at};
 ghost use Rattle.phys_frames.specs.Memory.{AreOf, first_frames};
-ghost use Rattle.pool_frames.specs.PoolLending.{zeroed_run};
+ghost use Rattle.pool_core.specs.PoolLending.{zeroed_run};
 ghost use Rattle.machine_core.specs.Agents.{Agent};
 ghost use Rattle.machine_core.specs.Turns.{IsReady, Goes};
 ghost use Rattle.luo_calls.specs.Stuck.{Sticks, turn};

@@ -10,7 +10,7 @@ ghost use Rattle.ho_world.specs.Acts.{Claim, IsFile};
 ghost use Rattle.ho_world.specs.Logs.{deed_at, AreClaimed};
 ghost use Rattle.ho_world.specs.Sequences.Files.{write_acts};
 ghost use Rattle.phys_frames.specs.Memory.{AreOf, first_frames};
-ghost use Rattle.pool_frames.specs.PoolLending.{zeroed_run};
+ghost use Rattle.pool_core.specs.PoolLending.{zeroed_run};
 ghost use Rattle.memfd_file.specs.FileValues.{FileIs};
 ghost use Rattle.file_folios.specs.FileAnswers.{AreFillsOf, facts_of, fills_left, fills_used, wanted_indexes, write_answer};
 ghost use Rattle.memfd_file.specs.Files.{FileHas};

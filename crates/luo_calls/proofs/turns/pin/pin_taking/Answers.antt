@@ -8,7 +8,7 @@ use Rattle.ho_events.specs.declared.event.Event.TheVariants.{FilePin, PoolTake}
 use Rattle.ho_events.specs.declared.reply.Reply.TheVariants.{NoFrames, NoFramesOf, NotFinished, OkRuns}
 use Rattle.ho_world.specs.Acts.{IsFile}
 use Rattle.ho_world.specs.Logs.{deed_at}
-use Rattle.pool_frames.specs.PoolLending.{zeroed_run}
+use Rattle.pool_core.specs.PoolLending.{zeroed_run}
 use Rattle.machine_core.specs.Agents.{Agent, Anchor}
 use Rattle.luo_calls.specs.Doing.{SticksAfter}
 use Rattle.luo_calls.specs.Opened.{without}

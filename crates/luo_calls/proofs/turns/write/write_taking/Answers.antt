@@ -17,7 +17,7 @@ use Rattle.luo_calls.proofs.Taken.{none_taken, some_taken, some_of}
 use Rattle.ho_base.specs.declared.numbers.Kind.TheVariants.{Memfd}
 use Rattle.ho_world.specs.Acts.{IsFile}
 use Rattle.phys_frames.specs.Memory.{AreOf}
-use Rattle.pool_frames.specs.PoolLending.{zeroed_run}
+use Rattle.pool_core.specs.PoolLending.{zeroed_run}
 use Rattle.machine_core.specs.Agents.{Agent, Anchor}
 use Rattle.luo_calls.specs.declared.stuck.Stuck.{Stuck}
 use Rattle.luo_calls.specs.Opened.{without}

@@ -1,7 +1,0 @@
-use Rattle.std.proofs.Common.{◌≡◌, false}
-use Rattle.pool_frames.specs.PoolFramesValues.{is_marked_below}
-use Rattle.pool_frames.proofs.marking.marks_hold.Given as goal
-
--- no marked run of an order so far holds the frame
-abbrev pub invariant-loop-o : goal.invariant-loop-o
-invariant-loop-o l = is_marked_below l.marks.runs l.p.0 l.o ≡ false

@@ -1,7 +1,0 @@
-use Rattle.std.proofs.Common.{◌≡◌, false}
-use Rattle.pool_frames.specs.PoolFramesValues.{any_pinned}
-use Rattle.pool_frames.proofs.pool.PoolFrames.pinned.Given as goal
-
--- none of the frames so far is pinned
-abbrev pub invariant-loop-i : goal.invariant-loop-i
-invariant-loop-i l = any_pinned l.self.state.pinned l.first.0 l.i ≡ false

@@ -1,6 +1,0 @@
-use Rattle.std.proofs.Common.{arith}
-use Rattle.phys_frames.proofs.Runs.{few_frames}
-use Rattle.pool_frames.proofs.table.run_len.Goals as goal
-
-pub returns-clause-few : goal.returns-clause-few
-returns-clause-few c = omega (arith, few_frames c.args.order.0 c.requires)

@@ -1,6 +1,0 @@
-use Rattle.pool_frames.specs.PoolFramesValues.{AreUsableBelow}
-use Rattle.pool_frames.proofs.usable.usable_frames.Given as goal
-
--- the scratch frames so far are taken out
-abbrev pub invariant-loop-p : goal.invariant-loop-p
-invariant-loop-p l = AreUsableBelow l.shape l.p l.set

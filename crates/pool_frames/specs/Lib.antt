@@ -1,4 +1,0 @@
-pub mod PoolTags
-pub mod PoolFramesValues
-pub mod PoolLending
-pub mod PoolAdopting
