@@ -22,7 +22,7 @@ use Rattle.record_frames.specs.Entry.{IsHandover, TellsHandover}
 use Rattle.record_frames.specs.declared.place.ImagePlace.{ImagePlace}
 use Rattle.record_frames.specs.declared.place.ImagePlace.TheVariants.{Root as RootAt, Luo as LuoAt, Chain, Record, Bound, Owner}
 use Rattle.record_frames.specs.declared.entry.HandoverRead.{HandoverRead}
-use Rattle.kho_owners.specs.Owned.{frame_number}
+use Rattle.kho_records.specs.Owned.{frame_number}
 use Rattle.kho_records.specs.Survey.{kept_of, AreRead, TellsFrames}
 use Rattle.kho_records.specs.declared.reading.FramesRead.{FramesRead}
 

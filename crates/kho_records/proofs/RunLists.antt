@@ -21,8 +21,8 @@ use Rattle.record_frames.specs.declared.carried.CarriedBound.{CarriedBound}
 use Rattle.record_frames.specs.declared.lists.ListSheet.{ListSheet}
 use Rattle.record_frames.specs.declared.files.FileRead.{FileRead}
 use Rattle.record_frames.specs.declared.sessions.SessionRead.{SessionRead}
-use Rattle.kho_owners.specs.Owned.{run_view}
-use Rattle.kho_owners.specs.declared.owned.UsedRun.{UsedRun}
+use Rattle.kho_records.specs.Owned.{run_view}
+use Rattle.kho_records.specs.declared.owners.owned.UsedRun.{UsedRun}
 use Rattle.kho_records.specs.Survey.{kept_of, is_within, all_within}
 use Rattle.kho_records.specs.Users.{run_from, frame_of}
 use Rattle.kho_records.specs.declared.reading.FramesRead.{FramesRead}

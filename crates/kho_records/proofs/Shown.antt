@@ -20,8 +20,8 @@ use Rattle.record_frames.specs.declared.carried.CarriedSession.{CarriedSession}
 use Rattle.record_frames.specs.declared.lists.ListSheet.{ListSheet}
 use Rattle.record_frames.specs.declared.files.FileRead.{FileRead}
 use Rattle.record_frames.specs.declared.sessions.SessionRead.{SessionRead}
-use Rattle.chunk_frames.specs.Chunks.{chunk_views}
-use Rattle.chunk_frames.specs.declared.sheet.ChunkSheet.{ChunkSheet}
+use Rattle.kho_records.specs.Chunks.{chunk_views}
+use Rattle.kho_records.specs.declared.chain.sheet.ChunkSheet.{ChunkSheet}
 use Rattle.kho_records.specs.Users.{of_kind}
 use Rattle.kho_records.proofs.RunLists.{frames_have}
 

@@ -16,7 +16,7 @@ use Rattle.record_frames.specs.Bounds.{bound_view}
 use Rattle.record_frames.specs.Sessions.{records_view}
 use Rattle.record_frames.specs.declared.carried.Carried.{Carried}
 use Rattle.record_frames.specs.declared.place.ImagePlace.{ImagePlace}
-use Rattle.chunk_frames.specs.Chunks.{chunk_views}
+use Rattle.kho_records.specs.Chunks.{chunk_views}
 use Rattle.kho_records.specs.declared.reading.FramesRead.{FramesRead}
 use Rattle.kho_records.specs.declared.surveying.SurveyError.{SurveyError}
 use Rattle.kho_records.specs.declared.surveying.SurveyError.TheVariants.{BadImage, Memory}

@@ -12,12 +12,12 @@ ghost use Rattle.record_frames.specs.Files.{file_record};
 ghost use Rattle.record_frames.specs.Sessions.{session_record};
 ghost use Rattle.record_frames.specs.Bounds.{bound_view};
 ghost use Rattle.record_frames.specs.State.{file_in, session_in, bound_among, state_in};
-ghost use Rattle.chunk_frames.specs.Chunks.{chunk_views};
+ghost use Rattle.kho_records.specs.Chunks.{chunk_views};
 ghost use Rattle.kho_records.specs.Survey.{kept_of, is_within, all_within};
 ghost use Rattle.kho_records.specs.Users.{of_kind};
 
+use crate::chain::ChunkSheet;
 use crate::reading::FramesRead;
-use chunk_frames::ChunkSheet;
 use ho_base::Items;
 use ho_base::numbers::{Kind, Order, Pfn, Token};
 use record_frames::reading::{FileRead, ListSheet, SessionRead};

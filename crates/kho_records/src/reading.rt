@@ -9,7 +9,7 @@ ghost use Rattle.record_frames.specs.Sheets.{record_numbers};
 ghost use Rattle.record_frames.specs.Sessions.{records_view};
 ghost use Rattle.kho_records.specs.Survey.{TellsFrames};
 
-use chunk_frames::{ChunkSheet, read_chunks};
+use crate::chain::{ChunkSheet, read_chunks};
 use phys_frames::Frames;
 use record_frames::reading::{HandoverRead, RecordsRead, read_bounds, read_handover, read_records};
 use record_frames::{CarriedBound, ImagePlace};

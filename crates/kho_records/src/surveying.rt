@@ -12,15 +12,15 @@ ghost use Rattle.record_frames.specs.Carries.{Carries};
 ghost use Rattle.record_frames.specs.Reading.{BreakAt};
 ghost use Rattle.record_frames.specs.Sheeted.{ram_of};
 ghost use Rattle.record_frames.specs.State.{state_in};
-ghost use Rattle.kho_owners.specs.Owned.{frame_number};
+ghost use Rattle.kho_records.specs.Owned.{frame_number};
 ghost use Rattle.kho_records.specs.Survey.{kept_of, all_within, HasWorking, IsRefused};
 
 use crate::carrying::carried;
+use crate::owners::first_ill_frame;
 use crate::pages::hold_pages;
 use crate::reading::{FramesRead, read_frames};
 use crate::users::{single_frames, used_runs};
 use ho_base::numbers::Pfn;
-use kho_owners::first_ill_frame;
 use phys_frames::Frames;
 use record_frames::laws::law_of_keeping;
 use record_frames::{Carried, ImagePlace};
@@ -82,7 +82,7 @@ fn survey_frames(
 /// list frames, the bound records, and then who uses each frame.
 ///
 /// `BadImage`: the frames carry nothing, and this is the first place in that order whose rules break. `Memory`: out of
-/// memory. It costs the bytes of the frames that are read, and what [`kho_owners::first_ill_frame`] costs.
+/// memory. It costs the bytes of the frames that are read, and what [`first_ill_frame`] costs.
 pub fn survey(alloc: Global, frames: &Frames, entry: u64) -> Result<Carried, SurveyError>
     requires home { AllHome frames.now }
     ensures carries { IfOk result (λ c. Carries (ram_of frames.now) entry (state_in (ram_of frames.now) c)) }

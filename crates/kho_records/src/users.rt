@@ -9,12 +9,12 @@ ghost use Rattle.record_frames.specs.Owners.{single, given, file_runs};
 ghost use Rattle.record_frames.specs.Files.{file_record};
 ghost use Rattle.record_frames.specs.Sessions.{session_record};
 ghost use Rattle.record_frames.specs.Bounds.{bound_view};
-ghost use Rattle.kho_owners.specs.Owned.{run_view};
+ghost use Rattle.kho_records.specs.Owned.{run_view};
 ghost use Rattle.kho_records.specs.Survey.{is_within, all_within};
 ghost use Rattle.kho_records.specs.Users.{run_from, frame_of};
 
+use crate::owners::UsedRun;
 use ho_base::numbers::Pfn;
-use kho_owners::UsedRun;
 use record_frames::CarriedBound;
 use record_frames::reading::{FileRead, SessionRead};
 use std::alloc::{AllocError, Global};

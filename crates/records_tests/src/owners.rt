@@ -3,10 +3,9 @@
 ghost use Rattle.std.specs.Prelude.{◌≤◌, All};
 ghost use Rattle.ho_base.specs.declared.limits.TheConstants.{MAX_ORDER};
 
-use chunk_frames::{ChunkSheet, ElementRead};
 use ho_base::numbers::Pfn;
 use ho_base::shape::{Area, Shape};
-use kho_owners::{UsedRun, first_ill_frame};
+use kho_records::{ChunkSheet, ElementRead, UsedRun, first_ill_frame};
 use std::alloc::{AllocError, Global};
 use std::test::Fail;
 

@@ -5,7 +5,7 @@ use Rattle.record_frames.specs.Sheeted.{ram_of}
 use Rattle.record_frames.specs.Bounds.{bound_view}
 use Rattle.record_frames.specs.Sessions.{records_view}
 use Rattle.std.specs.Prelude.{map}
-use Rattle.chunk_frames.specs.Chunks.{chunk_views}
+use Rattle.kho_records.specs.Chunks.{chunk_views}
 use Rattle.kho_records.proofs.Limits.{records_within}
 use Rattle.kho_records.proofs.KeptSteps.{chain_breaks, record_breaks, bound_breaks, all_read, told_handover, told_as_is}
 use Rattle.kho_records.proofs.reading.read_frames.Goals as goal

@@ -7,7 +7,7 @@ use Rattle.record_frames.specs.Owners.{first_ill}
 use Rattle.record_frames.specs.Sessions.{records_view}
 use Rattle.record_frames.specs.Sheeted.{ram_of}
 use Rattle.record_frames.specs.declared.place.ImagePlace.{ImagePlace}
-use Rattle.chunk_frames.specs.Chunks.{chunk_views}
+use Rattle.kho_records.specs.Chunks.{chunk_views}
 use Rattle.kho_records.specs.Survey.{kept_of}
 use Rattle.kho_records.specs.declared.reading.FramesRead.{FramesRead}
 use Rattle.kho_records.proofs.KeptSteps.{told_frames, are_kept}

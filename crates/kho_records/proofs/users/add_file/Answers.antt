@@ -1,6 +1,6 @@
 use Rattle.std.proofs.Common.{◌++◌, List, map, length, ap, ◌∙◌, arith}
 use Rattle.folio_bitmaps.specs.Runs.{Run}
-use Rattle.kho_owners.specs.Owned.{run_view}
+use Rattle.kho_records.specs.Owned.{run_view}
 use Rattle.kho_records.proofs.Adding.{ended}
 use Rattle.kho_records.proofs.RunLists.{sheet_runs, sheets_runs}
 use Rattle.record_frames.specs.declared.lists.ListSheet.{ListSheet}

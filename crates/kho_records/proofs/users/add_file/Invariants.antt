@@ -1,5 +1,5 @@
 use Rattle.std.proofs.Common.{map}
-use Rattle.kho_owners.specs.Owned.{run_view}
+use Rattle.kho_records.specs.Owned.{run_view}
 use Rattle.kho_records.proofs.Adding.{Added}
 use Rattle.kho_records.proofs.RunLists.{sheet_runs}
 use Rattle.kho_records.proofs.users.add_file.Given as goal

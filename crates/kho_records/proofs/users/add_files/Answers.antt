@@ -1,7 +1,7 @@
 use Rattle.std.proofs.Common.{◌++◌, List, map, ap, ◌∙◌, arith}
 use Rattle.folio_bitmaps.specs.Runs.{Run}
 use Rattle.record_frames.specs.Files.{file_record}
-use Rattle.kho_owners.specs.Owned.{run_view}
+use Rattle.kho_records.specs.Owned.{run_view}
 use Rattle.kho_records.proofs.Adding.{ended}
 use Rattle.kho_records.proofs.RunLists.{file_at_within, order_within, read_runs, files_runs}
 use Rattle.kho_records.proofs.users.add_files.Goals as goal

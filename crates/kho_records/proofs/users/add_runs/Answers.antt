@@ -1,6 +1,6 @@
 use Rattle.std.proofs.Common.{◌++◌, List, map, ap, ◌∙◌, arith}
 use Rattle.folio_bitmaps.specs.Runs.{Run}
-use Rattle.kho_owners.specs.Owned.{run_view}
+use Rattle.kho_records.specs.Owned.{run_view}
 use Rattle.kho_records.proofs.Adding.{ended}
 use Rattle.kho_records.proofs.RunLists.{one_run, runs_one}
 use Rattle.kho_records.proofs.users.add_runs.Goals as goal

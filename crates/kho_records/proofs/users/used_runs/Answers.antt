@@ -6,7 +6,7 @@ use Rattle.record_frames.specs.Owners.{single}
 use Rattle.record_frames.specs.Files.{file_record}
 use Rattle.record_frames.specs.Sessions.{session_record}
 use Rattle.record_frames.specs.declared.files.FileRead.{FileRead}
-use Rattle.kho_owners.specs.Owned.{run_view}
+use Rattle.kho_records.specs.Owned.{run_view}
 use Rattle.kho_records.specs.Survey.{is_within}
 use Rattle.kho_records.proofs.Adding.{ended}
 use Rattle.kho_records.proofs.RunLists.{session_at_within, session_runs, sessions_runs, all_small}

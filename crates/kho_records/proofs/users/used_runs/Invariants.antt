@@ -1,7 +1,7 @@
 use Rattle.std.proofs.Common.{map}
 use Rattle.ho_events.specs.Lists.{firsts}
 use Rattle.record_frames.specs.Owners.{single}
-use Rattle.kho_owners.specs.Owned.{run_view}
+use Rattle.kho_records.specs.Owned.{run_view}
 use Rattle.kho_records.proofs.Adding.{Added}
 use Rattle.kho_records.proofs.RunLists.{session_runs}
 use Rattle.kho_records.proofs.users.used_runs.Given as goal

@@ -1,5 +1,0 @@
-mod Rising
-mod Fronts
-mod FrontTests
-mod Elements
-mod ChunkLoop

@@ -1,5 +1,0 @@
-mod Flags
-mod Found
-mod Marks
-mod Rule
-mod Tables

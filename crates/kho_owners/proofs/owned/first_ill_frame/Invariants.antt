@@ -1,5 +1,0 @@
-use Rattle.kho_owners.proofs.Found.{AreRight}
-use Rattle.kho_owners.proofs.owned.first_ill_frame.Given as goal
-
-abbrev pub invariant-loop-p : goal.invariant-loop-p
-invariant-loop-p l = AreRight l.users l.shape.scratch l.chunks l.p

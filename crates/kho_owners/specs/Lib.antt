@@ -1,2 +1,0 @@
-pub mod Owner
-pub mod Owned

@@ -1,9 +1,0 @@
-//! The owners' rule of frames: each frame has at most one user, frame 0 has none, and just the runs of users are marked.
-#![tactic(auto)]
-
-mod marked;
-mod owned;
-mod owner;
-mod table;
-
-pub use owned::{UsedRun, first_ill_frame};
