@@ -186,7 +186,7 @@ run_program props short.dtb /
 check "the tool refuses the smallest blob without its last byte" 1 "refused: header$newline" ""
 
 # The entry frame of the records: the blob, and zeros up to the frame's end.
-need_tool records_bench kho_writer entry_blob chain_laws kho_laws kho_records record_frames folio_bitmaps phys_frames fdt_blob ho_base -- help
+need_tool records_bench kho_writer kho_laws kho_records record_frames folio_bitmaps phys_frames fdt_blob ho_base -- help
 run_program entry written.dtb
 check "the writer of records writes an entry frame" 0 "" ""
 expect "an entry frame has 4096 bytes" 4096 "$(stat -c %s "$work/written.dtb")"

@@ -5,9 +5,9 @@
 ghost use Rattle.std.specs.Prelude.{◌≤◌};
 ghost use Rattle.ho_base.specs.declared.limits.TheConstants.{MAX_FRAMES, MIN_FRAMES};
 
-use entry_blob::write_entry;
 use ho_base::numbers::{Order, Pfn};
 use ho_base::shape::{Area, Shape};
+use kho_writer::write_entry;
 use phys_frames::Frames;
 use std::alloc::{AllocError, Global};
 use std::io;

@@ -12,12 +12,11 @@ ghost use Rattle.kho_laws.specs.Carrying.{can_be_carried};
 ghost use Rattle.kernel_carried.specs.Gathered.{IsGathered};
 ghost use Rattle.freeze_path.specs.Ready.{HasPool, IsReady, IsSoundKernel};
 
-use carry_checks::tracker_of;
 use folio_bitmaps::Tracker;
 use ho_base::limits::OUT_SLOTS;
 use ho_base::numbers::{NoMemory, SlotNo};
 use kernel_carried::{carried_of, has_no_devices};
-use kho_writer::Prepared;
+use kho_writer::{Prepared, tracker_of};
 use machine_core::Kernel;
 use record_frames::{Carried, need};
 use sound_carried::carried_is_fit;

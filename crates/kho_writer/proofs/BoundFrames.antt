@@ -11,7 +11,7 @@ use Rattle.record_frames.specs.Kept.{devices, bound_frames}
 use Rattle.record_frames.specs.State.{bound_among}
 use Rattle.record_frames.specs.declared.carried.CarriedBound.{CarriedBound}
 use Rattle.kho_writer.specs.Bounds.{frame_in}
-use Rattle.entry_blob.specs.Entry.{number_at}
+use Rattle.kho_writer.specs.Entry.{number_at}
 
 abbrev bound_of : CarriedBound → BoundState
 bound_of b = record { bytes = b.bound; frame = b.frame.0 }

@@ -21,7 +21,7 @@ use Rattle.record_frames.proofs.WrittenBytes.{length_framed}
 use Rattle.record_frames.proofs.WrittenPages.{frames_with_pages}
 use Rattle.kho_laws.specs.Carrying.{runs_of_file, to_mark, CanHold, MarksJust, HoldKept, WrittenCarry}
 use Rattle.kho_laws.specs.Marks.{MarkedAfter}
-use Rattle.chain_laws.specs.Written.{HoldBytes, HoldWritten, IsChainOf, WrittenIsChain}
+use Rattle.kho_writer.specs.Written.{HoldBytes, HoldWritten, IsChainOf, WrittenIsChain}
 use Rattle.kho_writer.specs.Folios.{front_count, fronts, chunks, HasRoom, MarksOwn, HoldFolios, blob_for, front_pages, AreWritten, FoliosCarry}
 use Rattle.kho_writer.proofs.PageNumbers.{numbers, numbers_in_use}
 use Rattle.kho_writer.proofs.FolioPages.{pages_held, begins_framed, held_front, held_back, numbered_frames, some_of}

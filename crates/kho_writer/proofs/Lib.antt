@@ -6,3 +6,16 @@ pub mod BoundFrames
 pub mod Limits
 pub mod Counts
 pub mod Parts
+pub mod Laid
+pub mod Steps
+pub mod Areas
+pub mod FourBounds
+mod Worked
+pub mod ElementTests
+pub mod ChunkFronts
+pub mod Rising
+pub mod InChain
+pub mod MarkedRuns
+pub mod ChainRead
+pub mod OtherFrames
+pub mod MarkSteps

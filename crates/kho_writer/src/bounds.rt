@@ -5,7 +5,7 @@ ghost use Rattle.record_frames.specs.Kept.{bound_frames as frames_of_bounds, dev
 ghost use Rattle.record_frames.specs.Sheets.{kind_number as number_of_kind};
 ghost use Rattle.record_frames.specs.State.{bound_among};
 ghost use Rattle.kho_writer.specs.Bounds.{frame_in};
-ghost use Rattle.entry_blob.specs.Entry.{number_at};
+ghost use Rattle.kho_writer.specs.Entry.{number_at};
 
 use ho_base::numbers::{Kind, Pfn};
 use record_frames::CarriedBound;

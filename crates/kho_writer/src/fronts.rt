@@ -9,7 +9,7 @@ ghost use Rattle.kho_laws.specs.Carrying.{can_be_carried};
 ghost use Rattle.kho_writer.specs.Folios.{blob_for, front_count, front_pages};
 
 use crate::bounds::bound_frames;
-use entry_blob::write_entry;
+use crate::entry::write_entry;
 use ho_base::numbers::Pfn;
 use phys_frames::Folio;
 use record_frames::Carried;

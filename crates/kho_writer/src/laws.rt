@@ -2,7 +2,7 @@
 
 ghost use Rattle.kho_writer.specs.Folios.{FoliosCarry};
 
-use chain_laws::written::law_of_the_written_chain;
+use crate::chains::law_of_the_written_chain;
 use kho_laws::carrying::law_of_carrying;
 use kho_laws::owners::law_of_marks;
 

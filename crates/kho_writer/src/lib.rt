@@ -3,10 +3,15 @@
 
 mod bounds;
 mod bytes;
+mod chains;
+mod entry;
 mod fronts;
 pub mod laws;
+mod marks;
 mod prepared;
 mod writer;
 
+pub use entry::write_entry;
+pub use marks::tracker_of;
 pub use prepared::Prepared;
 pub use writer::write;

@@ -1,3 +1,4 @@
 pub mod Rising
 pub mod RoomSteps
 pub mod NeedSteps
+pub mod CarrySteps

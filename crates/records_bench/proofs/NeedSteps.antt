@@ -20,7 +20,7 @@ use Rattle.kho_laws.specs.Carrying.{can_be_carried, has_its_bound}
 use Rattle.kho_laws.specs.Sessions.{is_carried_file, is_carried_session, are_carried}
 use Rattle.kho_writer.specs.Folios.{OtherBytes}
 use Rattle.records_bench.specs.Taken.{AreTaken}
-use Rattle.carry_checks.proofs.MarkSteps.{session_keeps, sessions_keep}
+use Rattle.kho_writer.proofs.MarkSteps.{session_keeps, sessions_keep}
 
 pub few_sessions : (c : Carried) → IsTrue (can_be_carried c) → length c.sessions ≤ OUT_SLOTS
 few_sessions c h =

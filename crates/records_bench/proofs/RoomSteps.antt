@@ -31,7 +31,7 @@ use Rattle.kho_laws.specs.Carrying.{can_be_carried, runs_of_file, to_mark, CanHo
 use Rattle.kho_laws.proofs.FileRules.{all_weaker}
 use Rattle.kho_writer.specs.Folios.{front_count, fronts, chunks, HasRoom}
 use Rattle.records_bench.specs.Tests.{past_runs, past_files, past_sessions, past_folios, scratch_end, last_end, EndsWithin}
-use Rattle.carry_checks.proofs.MarkSteps.{flat_append, file_keeps, session_keeps, sessions_keep}
+use Rattle.kho_writer.proofs.MarkSteps.{flat_append, file_keeps, session_keeps, sessions_keep}
 use Rattle.records_bench.proofs.Rising.{past, within, within_wider, cross, cross_up, cross_down, join_apart, InOrder, in_order, Cut, cut, past_append, bind_same, none_some}
 
 -- ---- what the tests walk over, as one list of runs

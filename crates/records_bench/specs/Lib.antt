@@ -1,3 +1,4 @@
 pub mod Tests
+pub mod FileTests
 pub mod Taken
 pub mod Ready

@@ -2,6 +2,7 @@
 //! writes the entry frame of a small state into a file.
 #![tactic(auto)]
 
+mod checks;
 mod folios;
 mod room;
 mod state;

@@ -7,7 +7,7 @@ ghost use Rattle.record_frames.specs.State.{list_frames, session_frames};
 ghost use Rattle.kho_writer.specs.Folios.{HasRoom, front_count};
 ghost use Rattle.records_bench.specs.Tests.{EndsWithin, past_runs as past_runs_of, past_files as past_files_of, past_sessions as past_sessions_of, past_folios as past_folios_of, scratch_end as scratch_end_of, last_end as last_end_of};
 
-use carry_checks::can_carry;
+use crate::checks::can_carry;
 use folio_bitmaps::chunk_count;
 use ho_base::limits::MAX_ORDER;
 use ho_base::numbers::{Order, Pfn};

@@ -7,12 +7,12 @@ ghost use Rattle.kho_laws.specs.Carrying.{can_be_carried};
 ghost use Rattle.kho_writer.specs.Folios.{MarksOwn, OtherBytes};
 ghost use Rattle.records_bench.specs.Ready.{IsReady};
 
+use crate::checks::can_carry;
 use crate::folios::{give_folios, take_folios};
 use crate::room::has_room;
 use crate::state::{Amount, StateAt, make_state};
-use carry_checks::{can_carry, tracker_of};
 use folio_bitmaps::Tracker;
-use kho_writer::{Prepared, write};
+use kho_writer::{Prepared, tracker_of, write};
 use phys_frames::{Folio, Frames};
 use record_frames::{Carried, need};
 use std::alloc::{AllocError, Global};

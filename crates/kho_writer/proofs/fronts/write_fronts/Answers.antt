@@ -4,7 +4,7 @@ use Rattle.record_frames.specs.State.{bound_among}
 use Rattle.record_frames.specs.Writing.{frames_of, pages_in_use, with_pages}
 use Rattle.record_frames.specs.declared.carried.CarriedBound.{CarriedBound}
 use Rattle.record_frames.specs.declared.carried.CarriedSession.{CarriedSession}
-use Rattle.entry_blob.specs.Entry.{number_at}
+use Rattle.kho_writer.specs.Entry.{number_at}
 use Rattle.kho_writer.proofs.Limits.{sessions_limit, files_limit, runs_limit}
 use Rattle.kho_writer.proofs.Parts.{fronts_written, blob_fits}
 use Rattle.kho_writer.proofs.fronts.write_fronts.Goals as goal

@@ -1,2 +1,0 @@
-pub mod CarrySteps
-pub mod MarkSteps

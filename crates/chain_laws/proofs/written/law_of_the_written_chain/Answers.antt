@@ -1,5 +1,0 @@
-use Rattle.chain_laws.proofs.OtherFrames.{written_is_chain}
-use Rattle.chain_laws.proofs.written.law_of_the_written_chain.Goals as goal
-
-pub returns : goal.returns
-returns c = written_is_chain c.law_of_the_chain.ensures.found

@@ -1,6 +1,0 @@
-use Rattle.std.proofs.Common.{◌+◌, ◌*◌, arith}
-use Rattle.entry_blob.proofs.Steps.{puts_none}
-use Rattle.entry_blob.proofs.bounds.put_name.Goals as goal
-
-pub returns-in-None-clause-put : goal.returns-in-None-clause-put
-returns-in-None-clause-put c = rw c.in-None.is (puts_none c.args.folio.now (c.args.base + 11 * c.args.before) c.requires.size (omega (arith, c.requires.room, c.requires.few)))
