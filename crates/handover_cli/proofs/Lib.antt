@@ -3,7 +3,7 @@ pub mod Blocks
 pub mod Drips
 pub mod Ends
 pub mod FileMade
-pub mod ImageFronts
+pub mod ImageLoads
 pub mod DueTexts
 pub mod ReadBack
 pub mod Refused

@@ -1,22 +1,22 @@
 //! Begins a run from an image.
 
-ghost use Rattle.std.specs.Prelude.{◌≡◌, ◌≤◌, IfOk, IfErr, OnOk, Some};
+ghost use Rattle.std.specs.Prelude.{◌≡◌, IfOk, IfErr, OnOk};
 ghost use Rattle.ho_io.specs.Told.{Rose, behind, with_item, IsOneOf};
 ghost use Rattle.ho_io.specs.declared.host.Way.TheVariants.{Open};
+ghost use Rattle.image_file.specs.Loaded.{IsLoaded};
 ghost use Rattle.phys_frames.specs.Memory.{AllHome};
 ghost use Rattle.record_frames.specs.Sheeted.{ram_of};
 ghost use Rattle.kexec_boot.specs.Images.{BeginsFrom};
 ghost use Rattle.handover_cli.specs.Due.{WroteFront};
-ghost use Rattle.handover_cli.specs.ImageRefusals.{fault_word, image_line};
+ghost use Rattle.handover_cli.specs.ImageRefusals.{image_line};
 ghost use Rattle.handover_cli.specs.Images.{seen};
-ghost use Rattle.handover_cli.specs.Resumes.{BeginsWith, IsFrontOf, IsIllFor, IsSaid, IsUnfitFor};
+ghost use Rattle.handover_cli.specs.Resumes.{BeginsWith, IsIllFor, IsSaid, IsUnfitFor, IsWordOf, UnlessFault};
 ghost use Rattle.handover_cli.specs.Run.{with_opened};
 ghost use Rattle.handover_cli.specs.Stops.{StopsAtImage};
 
-use crate::reading::read_named;
 use crate::status::Status;
-use ho_io::{Host, ReadError, put_all};
-use image_file::{ImageError, read_image};
+use ho_io::{Host, put_all};
+use image_file::{ImageError, LoadError, load_image};
 use kexec_boot::{BootError, boot_image};
 use kho_records::hold_pages;
 use machine_core::Kernel;
@@ -24,9 +24,6 @@ use next_sound::law_of_sound_beginnings;
 use phys_frames::Frames;
 use place_text::place_text;
 use std::alloc::Global;
-
-/// The most bytes that an image has: a header of 32 bytes, and 16,384 frames of 4,096.
-const IMAGE_BYTES: u32 = 67_108_896;
 
 /// Writes that an image is refused, and why.
 fn refuse_image<H: Host>(alloc: Global, host: &mut H, why: &str) -> Status
@@ -51,31 +48,10 @@ fn refuse_image<H: Host>(alloc: Global, host: &mut H, why: &str) -> Status
     }
 }
 
-/// The bytes of an image: all that the host holds under its name, or one more than an image has.
-fn image_bytes<H: Host>(alloc: Global, name: &str, host: &mut H) -> Result<Vec<u8>, Status>
-    ensures front { IfOk result (λ bytes. IsFrontOf (H.holds host.old name.now) bytes.items) }
-    ensures opened { OnOk result (H.asked host.new ≡ with_item (H.asked host.old) (Open, name.now)) }
-    ensures stopped { IfErr result (StopsAtImage (H.holds host.old name.now) name.now (seen (H.out host.old) (H.made host.old) (H.asked host.old)) (seen (H.out host.new) (H.made host.new) (H.asked host.new))) }
-    ensures read_cause { IfErr result (λ s. s ≡ Status.ReadFault → Rose (H.read_faults host.old) (H.read_faults host.new)) }
-    ensures not_written { IfErr result (λ s. s ≡ Status.WriteFault → ⊥) }
-    ensures asked { IsOneOf (H.asked host.old) (with_item (H.asked host.old) (Open, name.now)) (H.asked host.new) }
-    ensures out_kept { H.out host.new ≡ H.out host.old }
-    ensures made_kept { H.made host.new ≡ H.made host.old }
-    ensures sinks_kept { H.sinks_out host.new ≡ H.sinks_out host.old }
-    ensures writes_kept { H.write_faults host.new ≡ H.write_faults host.old }
-{
-    match read_named(alloc, name, IMAGE_BYTES, host) {
-        Ok(bytes) => Ok(bytes),
-        Err(error) => match error {
-            ReadError::TooLong(bytes) => Ok(bytes),
-            ReadError::Fault => Err(Status::ReadFault),
-            ReadError::Memory => Err(Status::Memory),
-        },
-    }
-}
-
 /// Why no kernel begins with an image.
 enum Unfit {
+    /// Opening or reading failed.
+    Fault,
     /// The bytes or what their frames carry break a rule, and these words say which one, or where.
     Refused(String),
     /// Out of memory.
@@ -92,15 +68,42 @@ fn refused(alloc: Global, why: &str) -> Unfit
     }
 }
 
-/// The word of a fault of an image's bytes.
-fn fault_text(fault: ImageError) -> &'static str
-    ensures { result.now ≡ fault_word fault }
+/// Why bytes with this fault are no image, by the fault's word.
+fn refused_bytes(alloc: Global, fault: ImageError) -> Unfit
+    ensures { IsWordOf fault result }
 {
     match fault {
-        ImageError::BadHeader => "header",
-        ImageError::Short => "short",
-        ImageError::Extra => "extra",
-        ImageError::Memory => "",
+        ImageError::BadHeader => refused(alloc, "header"),
+        ImageError::Short => refused(alloc, "short"),
+        ImageError::Extra => refused(alloc, "extra"),
+        ImageError::Memory => Unfit::Memory,
+    }
+}
+
+/// All frames of the image of this name, and the number of its entry frame. Its bytes are read straight into the frames.
+fn load_named<H: Host>(alloc: Global, name: &str, host: &mut H) -> Result<(Frames, u64), Unfit>
+    ensures loaded { IfOk result (λ r. IsLoaded (H.holds host.old name.now) r.0.pages r.1) }
+    ensures home { IfOk result (λ r. AllHome r.0) }
+    ensures unfit { IfErr result (IsUnfitFor (H.holds host.old name.now)) }
+    ensures opened { UnlessFault result (H.asked host.new ≡ with_item (H.asked host.old) (Open, name.now)) }
+    ensures read_cause { IfErr result (λ why. why ≡ Unfit.Fault → Rose (H.read_faults host.old) (H.read_faults host.new)) }
+    ensures asked { IsOneOf (H.asked host.old) (with_item (H.asked host.old) (Open, name.now)) (H.asked host.new) }
+    ensures out_kept { H.out host.new ≡ H.out host.old }
+    ensures made_kept { H.made host.new ≡ H.made host.old }
+    ensures sinks_kept { H.sinks_out host.new ≡ H.sinks_out host.old }
+    ensures writes_kept { H.write_faults host.new ≡ H.write_faults host.old }
+{
+    let Ok(mut src) = host.open(name) else {
+        return Err(Unfit::Fault);
+    };
+    let loaded = load_image(alloc, &mut src);
+    host.shut_src(src);
+    match loaded {
+        Ok(frames) => Ok(frames),
+        Err(error) => Err(match error {
+            LoadError::Fault => Unfit::Fault,
+            LoadError::Image(fault) => refused_bytes(alloc, fault),
+        }),
     }
 }
 
@@ -123,21 +126,25 @@ fn boot_frames(alloc: Global, frames: Frames, entry: u64) -> Result<Kernel, Unfi
     }
 }
 
-/// The first kernel of a run, which begins with what the image carries that these bytes are.
-fn boot_bytes(alloc: Global, bytes: &[u8]) -> Result<Kernel, Unfit>
-    ensures begins { IfOk result (BeginsWith (Some bytes.now)) }
-    ensures unfit { IfErr result (IsUnfitFor bytes.now) }
+/// The first kernel of a run, which begins with what the image of this name carries.
+fn boot_named<H: Host>(alloc: Global, name: &str, host: &mut H) -> Result<Kernel, Unfit>
+    ensures begins { IfOk result (BeginsWith (H.holds host.old name.now)) }
+    ensures unfit { IfErr result (IsUnfitFor (H.holds host.old name.now)) }
+    ensures opened { UnlessFault result (H.asked host.new ≡ with_item (H.asked host.old) (Open, name.now)) }
+    ensures read_cause { IfErr result (λ why. why ≡ Unfit.Fault → Rose (H.read_faults host.old) (H.read_faults host.new)) }
+    ensures asked { IsOneOf (H.asked host.old) (with_item (H.asked host.old) (Open, name.now)) (H.asked host.new) }
+    ensures out_kept { H.out host.new ≡ H.out host.old }
+    ensures made_kept { H.made host.new ≡ H.made host.old }
+    ensures sinks_kept { H.sinks_out host.new ≡ H.sinks_out host.old }
+    ensures writes_kept { H.write_faults host.new ≡ H.write_faults host.old }
 {
-    match read_image(alloc, bytes) {
+    match load_named(alloc, name, host) {
         Ok((frames, entry)) => {
             hold_pages(&frames);
             law_of_sound_beginnings();
             boot_frames(alloc, frames, entry)
         }
-        Err(fault) => Err(match fault {
-            ImageError::Memory => Unfit::Memory,
-            _ => refused(alloc, fault_text(fault)),
-        }),
+        Err(unfit) => Err(unfit),
     }
 }
 
@@ -156,10 +163,10 @@ pub fn begin_image<H: Host>(alloc: Global, name: &str, host: &mut H) -> Result<K
     ensures made_kept { H.made host.new ≡ H.made host.old }
     ensures sinks_kept { H.sinks_out host.new ≡ H.sinks_out host.old }
 {
-    let bytes = image_bytes(alloc, name, host)?;
-    match boot_bytes(alloc, bytes.as_slice()) {
+    match boot_named(alloc, name, host) {
         Ok(kernel) => Ok(kernel),
         Err(unfit) => Err(match unfit {
+            Unfit::Fault => Status::ReadFault,
             Unfit::Refused(words) => refuse_image(alloc, host, words.as_str()),
             Unfit::Memory => Status::Memory,
         }),
