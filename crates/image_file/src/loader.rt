@@ -29,8 +29,8 @@ pub enum LoadError {
 }
 
 /// The frames of the image that a source gives, all home, and the number of its entry frame, which may be any number.
-/// The source is read to its end, or to one byte more than the image has. It takes memory for the frames alone, a frame
-/// of zeros is not written, and the cost is linear in the bytes.
+/// The source is read to its end, or to one byte more than the image has. It takes memory for the frames alone, a page
+/// of zeros is not copied, and the cost is linear in the bytes.
 ///
 /// # Errors
 /// [`LoadError::Fault`] only where the source's count of faults rose. [`LoadError::Image`] with the fault of all bytes that
@@ -188,8 +188,7 @@ fn read_full<S: Source>(src: &mut S, buf: &mut [u8]) -> Result<usize, Failed>
     Ok(done)
 }
 
-/// Puts bytes into a frame of zeros. Where they are zeros too the frame is left as it is, so that it takes no memory of
-/// the system.
+/// Puts bytes into a frame of zeros. Where they are zeros too the frame is left as it is.
 fn put_page(frames: &mut Frames, p: Pfn, bytes: &[u8])
     requires blank { page_at frames.old p ≡ Some zero_page }
     requires size { length bytes.now ≡ PAGE_BYTES }
