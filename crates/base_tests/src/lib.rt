@@ -7,6 +7,8 @@ mod history_text;
 #[cfg(test)]
 mod hosts;
 #[cfg(test)]
+mod refusals;
+#[cfg(test)]
 mod scripts;
 #[cfg(test)]
 mod values;

@@ -32,7 +32,7 @@ use std::alloc::Global;
 pub type Kept = (Token, FileNo, u64);
 
 /// Whether no file stands twice. It compares each two of them.
-#[tactic(auto, using(crate::proofs::Closes::repeats, crate::proofs::Closes::goes_on, crate::proofs::Closes::none_repeats))]
+#[tactic(auto, using(crate::proofs::ClosedParts::repeats, crate::proofs::ClosedParts::goes_on, crate::proofs::ClosedParts::none_repeats))]
 pub fn are_all_different(files: &[Kept]) -> bool
     ensures { result ≡ have_own_numbers files.now }
 {

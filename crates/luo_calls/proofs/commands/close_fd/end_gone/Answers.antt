@@ -1,7 +1,7 @@
 use Rattle.std.proofs.Common.{[], ◌∷◌, ◌++◌, sym}
 use Rattle.std.proofs.lemmas.Result.{err_from_is_err_and}
 use Rattle.luo_calls.proofs.Chains.{ready_after, then_goes}
-use Rattle.luo_calls.proofs.Closes.{same_given_goes, same_given_sticks}
+use Rattle.luo_calls.proofs.ClosedParts.{same_given_goes, same_given_sticks}
 use Rattle.luo_calls.proofs.CloseFds.{freed, gone_deeds, gone_deeds_end, gone_ends}
 use Rattle.luo_calls.proofs.Nested.{sticks_first, sticks_next}
 use Rattle.luo_calls.proofs.Sticking.{sticks_more}

@@ -1,4 +1,4 @@
-use Rattle.luo_calls.proofs.Closes.{plain_unpin, part_whole, plain_whole, closed_one}
+use Rattle.luo_calls.proofs.ClosedParts.{plain_unpin, part_whole, plain_whole, closed_one}
 use Rattle.ho_world.specs.Logs.{deed_at}
 use Rattle.ho_world.specs.Acts.{IsFile}
 use Rattle.ho_events.specs.declared.event.Event.TheVariants.{FileUnpin}

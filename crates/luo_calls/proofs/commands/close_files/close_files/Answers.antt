@@ -1,4 +1,4 @@
-use Rattle.luo_calls.proofs.Closes.{loop_sticks, closed_more, closed_none}
+use Rattle.luo_calls.proofs.ClosedParts.{loop_sticks, closed_more, closed_none}
 use Rattle.std.proofs.lemmas.Result.{err_from_is_err_and}
 use Rattle.luo_calls.proofs.Chains.{ready_after}
 use Rattle.luo_calls.proofs.Nested.{sticks_later}

@@ -1,4 +1,4 @@
-use Rattle.luo_calls.proofs.Closes.{same_given_goes, same_given_sticks, after_give, after_unmark, gone_goes}
+use Rattle.luo_calls.proofs.ClosedParts.{same_given_goes, same_given_sticks, after_give, after_unmark, gone_goes}
 use Rattle.luo_calls.proofs.Sticking.{sticks_more}
 use Rattle.luo_calls.specs.Stuck.{Sticks, turn_of}
 use Rattle.luo_calls.specs.Closing.{deeds, given_back, unmarked}

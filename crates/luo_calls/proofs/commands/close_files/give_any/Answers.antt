@@ -1,5 +1,5 @@
 use Rattle.std.proofs.Common.{arith, ap, length}
-use Rattle.luo_calls.proofs.Closes.{none_given}
+use Rattle.luo_calls.proofs.ClosedParts.{none_given}
 use Rattle.luo_calls.proofs.commands.close_files.give_any.Goals as goal
 
 pub returns-in-empty-clause-goes : goal.returns-in-empty-clause-goes

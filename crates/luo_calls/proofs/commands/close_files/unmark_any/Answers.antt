@@ -1,5 +1,5 @@
 use Rattle.std.proofs.Common.{arith}
-use Rattle.luo_calls.proofs.Closes.{none_unmarked}
+use Rattle.luo_calls.proofs.ClosedParts.{none_unmarked}
 use Rattle.luo_calls.proofs.commands.close_files.unmark_any.Goals as goal
 
 pub returns-in-empty-clause-goes : goal.returns-in-empty-clause-goes

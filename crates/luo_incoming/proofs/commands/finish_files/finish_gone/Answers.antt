@@ -6,7 +6,7 @@ use Rattle.std.proofs.Common.{[], ◌∷◌, ◌++◌, sym}
 use Rattle.std.proofs.lemmas.Result.{err_from_is_err_and}
 use Rattle.luo_calls.specs.Closing.{deeds, given_back}
 use Rattle.luo_calls.proofs.Chains.{ready_after}
-use Rattle.luo_calls.proofs.Closes.{same_given_goes, same_given_sticks}
+use Rattle.luo_calls.proofs.ClosedParts.{same_given_goes, same_given_sticks}
 use Rattle.luo_calls.proofs.Nested.{sticks_first, sticks_next}
 use Rattle.luo_calls.proofs.Sticking.{sticks_more}
 use Rattle.luo_incoming.proofs.Finishes.{gone_deeds, gone_goes}
