@@ -14,6 +14,7 @@ pub mod Shown
 pub mod Starts
 pub mod Stopping
 pub mod WorkedAlone
+pub mod TextParts
 pub mod Written
 pub mod KernelWorlds
 pub mod KexecBlocks

@@ -26,5 +26,6 @@ pub mod WriteCommands
 pub mod Truncates
 pub mod Preserves
 pub mod PinTurns
+pub mod ClosedParts
 pub mod Closes
 pub mod CloseFds

@@ -1,7 +1,6 @@
 use Rattle.luo_calls.proofs.ClosedParts.{loop_sticks, closed_more, closed_none}
 use Rattle.std.proofs.lemmas.Result.{err_from_is_err_and}
 use Rattle.luo_calls.proofs.Chains.{ready_after}
-use Rattle.luo_calls.proofs.Nested.{sticks_later}
 use Rattle.luo_calls.proofs.commands.close_files.close_files.Goals as goal
 
 pub loop-kept-init : goal.loop-kept-init

@@ -1,13 +1,11 @@
 use Rattle.luo_calls.proofs.ClosedParts.{same_given_goes, same_given_sticks, after_give, after_unmark, gone_goes}
 use Rattle.luo_calls.proofs.Sticking.{sticks_more}
-use Rattle.luo_calls.specs.Stuck.{Sticks, turn_of}
 use Rattle.luo_calls.specs.Closing.{deeds, given_back, unmarked}
-use Rattle.machine_core.specs.Turns.{Goes}
-use Rattle.ho_world.specs.Logs.{Deed, deed_at, end_with}
+use Rattle.ho_world.specs.Logs.{deed_at}
 use Rattle.ho_events.specs.declared.reply.Reply.TheVariants.{Ok}
 use Rattle.ho_events.specs.declared.event.Event.TheVariants.{RegFreeFile}
 use Rattle.ho_base.specs.Objects.{registry_no}
-use Rattle.std.proofs.Common.{[], ◌∷◌, ◌++◌, sym, subst}
+use Rattle.std.proofs.Common.{[], ◌∷◌, ◌++◌, sym}
 use Rattle.std.proofs.lemmas.Result.{err_from_is_err_and}
 use Rattle.luo_calls.proofs.Chains.{ready_after, then_goes}
 use Rattle.luo_calls.proofs.Nested.{sticks_first, sticks_next}

@@ -1,6 +1,6 @@
 use Rattle.luo_calls.proofs.Sticking.{sticks_any}
 use Rattle.std.proofs.lemmas.Result.{err_from_is_err_and}
-use Rattle.std.proofs.Common.{List, refl, [], subst, sym}
+use Rattle.std.proofs.Common.{List, [], subst, sym}
 use Rattle.ho_base.specs.Objects.{pool_no}
 use Rattle.phys_frames.specs.Memory.{AreOf, FolioValue, first_frames}
 use Rattle.luo_calls.specs.Stuck.{Sticks, turn}

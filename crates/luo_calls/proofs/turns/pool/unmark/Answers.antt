@@ -1,6 +1,6 @@
 use Rattle.luo_calls.proofs.Sticking.{sticks_any}
 use Rattle.std.proofs.lemmas.Result.{err_from_is_err_and}
-use Rattle.std.proofs.Common.{refl, []}
+use Rattle.std.proofs.Common.{[]}
 use Rattle.ho_events.specs.declared.event.Event.TheVariants.{PoolUnmark}
 use Rattle.luo_calls.proofs.Cannot.{pool_cannot}
 use Rattle.luo_calls.proofs.KindTurns as kinds

@@ -1,6 +1,5 @@
 use Rattle.luo_calls.proofs.Sticking.{sticks_any}
 use Rattle.std.proofs.lemmas.Result.{err_from_is_err_and}
-use Rattle.std.proofs.Common.{refl}
 use Rattle.ho_events.specs.declared.event.Event.TheVariants.{RegFreeFile}
 use Rattle.luo_calls.proofs.Cannot.{registry_cannot}
 use Rattle.luo_calls.proofs.KindTurns as kinds
