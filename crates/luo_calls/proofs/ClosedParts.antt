@@ -22,12 +22,11 @@ use Rattle.machine_core.specs.Agents.{Agent}
 use Rattle.machine_core.specs.Turns.{Goes}
 use Rattle.luo_calls.specs.Closing.{ArePartsOf, HasClosed, Kept, after_unpin, deeds, given_back, has_number, have_own_numbers, kept_reference, unmarked}
 use Rattle.luo_calls.specs.Doing.{SticksAfter}
-use Rattle.luo_calls.specs.Opened.{without}
 use Rattle.luo_calls.specs.Replies.{IsUnpinReply}
 use Rattle.luo_calls.specs.Stuck.{Sticks, turn, turn_of}
 use Rattle.luo_calls.specs.declared.stuck.Stuck.{Stuck}
 use Rattle.luo_calls.proofs.Chains.{then_goes}
-use Rattle.luo_calls.proofs.Nested.{goes_nowhere, sticks_before, sticks_later, within_goes}
+use Rattle.luo_calls.proofs.Nested.{goes_nowhere, sticks_before, sticks_later}
 
 -- ---- whether a file stands twice
 
@@ -176,9 +175,6 @@ loop_sticks files i d at at1 at2 stuck a a1 a2 less c s =
 pub closed_more : (files : List Kept) (i : ℕ) (d : Kept) (at at1 at2 : At) (a a1 a2 : Agent) → i < length files → HasClosed (take i files) at at1 a a1 → HasClosed (get_or files i d ∷ []) at1 at2 a1 a2 → HasClosed (take (i + 1) files) at at2 a a2
 closed_more files i d at at1 at2 a a1 a2 less h k =
     subst (λ fs. HasClosed fs at at2 a a2) (sym (take_more files i d less)) (closed_both (take i files) (get_or files i d ∷ []) at at1 at2 a a1 a2 h k)
-
-pub closed_within : (files : List Kept) (at at1 : At) (n : ℕ) (a a1 : Agent) → HasClosed files at at1 a a1 → HasClosed files at at1 (without n a) (without n a1)
-closed_within files at at1 n a a1 h = record { parts = h.parts; listed = h.listed; goes = within_goes _ at at1 n a a1 h.goes }
 
 -- ---- after the unpin
 

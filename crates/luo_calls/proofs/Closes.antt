@@ -42,7 +42,6 @@ use Rattle.luo_calls.specs.Stuck.{Sticks, turn, turn_of}
 use Rattle.luo_calls.specs.declared.stuck.Stopped.{Stopped}
 use Rattle.luo_calls.specs.declared.stuck.Stuck.{Stuck}
 use Rattle.luo_calls.proofs.Chains.{then_goes}
-use Rattle.luo_calls.proofs.ClosedParts.{closed_within}
 use Rattle.luo_calls.proofs.Nested.{holds_goes, outer_goes, outer_sticks, sticks_first, sticks_held, sticks_later, under_at, within_goes}
 
 -- ---- what may be taken
@@ -270,6 +269,10 @@ module _ (name : List ℕ) (at at1 at2 : At) (a a1 a2 : Agent) where
     goes = then_goes _ _ at at1 at2 a a1 a2 g h;
     labels_are = refl;
   }
+
+-- the parts, while an object is in hand
+closed_within : (files : List Kept) (at at1 : At) (n : ℕ) (a a1 : Agent) → HasClosed files at at1 a a1 → HasClosed files at at1 (without n a) (without n a1)
+closed_within files at at1 n a a1 h = record { parts = h.parts; listed = h.listed; goes = within_goes _ at at1 n a a1 h.goes }
 
 -- the files' parts, and then the end of the session in hand
 pub ends_closed : (name : List ℕ) (slot : SlotNo) (at at1 at2 : At) (a a1 a2 : Agent) (v : SessionValue) (files : List Kept) → Holds (session_no slot.0) a (Session v) → Tells v files → have_own_numbers files ≡ true → HasClosed files at at1 a a1 → ((claims : List Claim) → AreClaimed (begun a1) a1.hands claims → Goes (deed_at (session_no slot.0) claims (SessionClose name) Ok ∷ deed_at registry_no [] (RegDropName name) Ok ∷ end_with Ok ∷ []) at1 at2 (without (session_no slot.0) a1) a2) → ClosesSlot name slot Ok at at2 (without (session_no slot.0) a) a2

@@ -5,7 +5,7 @@ mod commands;
 mod own;
 mod verbs;
 
-ghost use Rattle.std.specs.Prelude.{◌≡◌, ◌∷◌, IfOk};
+ghost use Rattle.std.specs.Prelude.{◌≡◌, ◌≢◌, ◌∷◌, IfOk};
 ghost use Rattle.ho_events.specs.Script.Words.{words};
 ghost use Rattle.ho_events.specs.Script.Lines.{line_with as with_rule, line_of_words};
 
@@ -45,26 +45,40 @@ fn line_with(alloc: Global, verb: Verb, args: &[u8]) -> Result<Result<Line, Reas
     ensures { IfOk result (λ line. line ≡ with_rule verb (words args.now)) }
 {
     match verb {
-        Verb::Machine => Ok(machine_line(args)),
-        Verb::Scratch => Ok(scratch_line(args)),
-        Verb::Fail => Ok(fail_line(args)),
-        Verb::Round => Ok(round_line(args)),
-        Verb::Agent => Ok(agent_line(args)),
-        Verb::Kexec => Ok(kexec_line(args)),
-        Verb::Memfd => Ok(memfd_line(args)),
-        Verb::Device => Ok(device_line(args)),
         Verb::Write => write_line(alloc, args),
-        Verb::Fill => Ok(fill_line(args)),
-        Verb::Read => Ok(read_line(args)),
-        Verb::Truncate => Ok(truncate_line(args)),
-        Verb::Seek => Ok(seek_line(args)),
-        Verb::Tell => Ok(tell_line(args)),
-        Verb::CloseFd => Ok(close_fd_line(args)),
-        Verb::Create => Ok(create_line(args)),
-        Verb::Preserve => Ok(preserve_line(args)),
-        Verb::Close => Ok(close_line(args)),
-        Verb::Open => Ok(open_line(args)),
-        Verb::Retrieve => Ok(retrieve_line(args)),
-        Verb::Finish => Ok(finish_line(args)),
+        _ => Ok(line_without_bytes(verb, args)),
+    }
+}
+
+/// [`line_with`] of a line that is no write, so that it takes no memory. It stands apart, since a call sets the memory of
+/// all that is inlined into it to zeros first, and most lines are writes.
+#[inline(never)]
+#[tactic(auto, unfolding(ho_events::specs::Script::Lines::line_with))]
+fn line_without_bytes(verb: Verb, args: &[u8]) -> Result<Line, Reason>
+    requires { verb ≢ Verb.Write }
+    ensures { result ≡ with_rule verb (words args.now) }
+{
+    match verb {
+        Verb::Machine => machine_line(args),
+        Verb::Scratch => scratch_line(args),
+        Verb::Fail => fail_line(args),
+        Verb::Round => round_line(args),
+        Verb::Agent => agent_line(args),
+        Verb::Kexec => kexec_line(args),
+        Verb::Memfd => memfd_line(args),
+        Verb::Device => device_line(args),
+        Verb::Write => unreachable!(),
+        Verb::Fill => fill_line(args),
+        Verb::Read => read_line(args),
+        Verb::Truncate => truncate_line(args),
+        Verb::Seek => seek_line(args),
+        Verb::Tell => tell_line(args),
+        Verb::CloseFd => close_fd_line(args),
+        Verb::Create => create_line(args),
+        Verb::Preserve => preserve_line(args),
+        Verb::Close => close_line(args),
+        Verb::Open => open_line(args),
+        Verb::Retrieve => retrieve_line(args),
+        Verb::Finish => finish_line(args),
     }
 }

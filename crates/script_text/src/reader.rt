@@ -145,22 +145,24 @@ impl Reader {
         }))
     }
 
-    /// Takes a line, or says why it is refused where it stands.
+    /// Takes a line, or says why it is refused where it stands. Most lines are commands; what takes another one isn't
+    /// inlined, since a call sets the memory of all that is inlined into it to zeros first.
     fn place(&mut self, alloc: Global, line: Line) -> Result<Result<(), Reason>, AllocError>
         ensures { IfOk result (λ done. MatchResult done (λ _. placed_rule self.old line ≡ Ok self.new) (λ why. placed_rule self.old line ≡ Err why)) }
     {
         match line {
+            Line::Command(command) => self.take_command(command),
             Line::Machine(frames) => Ok(self.take_machine(frames)),
             Line::Scratch(area) => self.take_scratch(alloc, area),
             Line::Fail(fail) => self.take_fail(fail),
             Line::Round => self.take_round(alloc),
             Line::Agent(name) => self.take_agent(alloc, name),
             Line::Kexec(blob) => self.take_kexec(alloc, blob),
-            Line::Command(command) => self.take_command(command),
         }
     }
 
     /// Takes a machine line, which comes first in a fresh script.
+    #[inline(never)]
     #[tactic(auto, unfolding(ho_events::specs::Script::placed, ho_events::specs::Script::SoFar::with_line,))]
     fn take_machine(&mut self, frames: u32) -> Result<(), Reason>
         ensures { MatchResult result (λ _. placed_rule self.old (Machine frames) ≡ Ok self.new) (λ why. placed_rule self.old (Machine frames) ≡ Err why) }
@@ -174,6 +176,7 @@ impl Reader {
 
     /// Takes a scratch line: one of 1 to 4 after the machine line, with which the areas so far
     /// are a machine's shape.
+    #[inline(never)]
     #[tactic(auto, unfolding(ho_events::specs::Script::placed, ho_events::specs::Script::SoFar::with_line,))]
     fn take_scratch(&mut self, alloc: Global, area: Area) -> Result<Result<(), Reason>, AllocError>
         ensures { IfOk result (λ done. MatchResult done (λ _. placed_rule self.old (Scratch area) ≡ Ok self.new) (λ why. placed_rule self.old (Scratch area) ≡ Err why)) }
@@ -202,6 +205,7 @@ impl Reader {
     }
 
     /// Takes a planned failure, which stands before the blocks.
+    #[inline(never)]
     #[tactic(auto, unfolding(ho_events::specs::Script::placed, ho_events::specs::Script::SoFar::with_line,))]
     fn take_fail(&mut self, fail: Fail) -> Result<Result<(), Reason>, AllocError>
         ensures { IfOk result (λ done. MatchResult done (λ _. placed_rule self.old (Plan fail) ≡ Ok self.new) (λ why. placed_rule self.old (Plan fail) ≡ Err why)) }
@@ -217,6 +221,7 @@ impl Reader {
     }
 
     /// Takes a round line.
+    #[inline(never)]
     #[tactic(auto, unfolding(ho_events::specs::Script::placed, ho_events::specs::Script::SoFar::with_line,))]
     fn take_round(&mut self, alloc: Global) -> Result<Result<(), Reason>, AllocError>
         ensures { IfOk result (λ done. MatchResult done (λ _. placed_rule self.old Round ≡ Ok self.new) (λ why. placed_rule self.old Round ≡ Err why)) }
@@ -234,6 +239,7 @@ impl Reader {
     }
 
     /// Takes a kexec line.
+    #[inline(never)]
     #[tactic(auto, unfolding(ho_events::specs::Script::placed, ho_events::specs::Script::SoFar::with_line,))]
     fn take_kexec(&mut self, alloc: Global, blob: Blob) -> Result<Result<(), Reason>, AllocError>
         ensures { IfOk result (λ done. MatchResult done (λ _. placed_rule self.old (Boot blob) ≡ Ok self.new) (λ why. placed_rule self.old (Boot blob) ≡ Err why)) }
@@ -251,6 +257,7 @@ impl Reader {
     }
 
     /// Takes an agent line, which stands in a round that has no section of this agent.
+    #[inline(never)]
     #[tactic(auto, unfolding(ho_events::specs::Script::placed, ho_events::specs::Script::SoFar::with_line,))]
     fn take_agent(&mut self, alloc: Global, name: Name) -> Result<Result<(), Reason>, AllocError>
         ensures { IfOk result (λ done. MatchResult done (λ _. placed_rule self.old (Agent name) ≡ Ok self.new) (λ why. placed_rule self.old (Agent name) ≡ Err why)) }

@@ -19,7 +19,7 @@ ghost use Rattle.luo_calls.specs.Opened.{Holds, without};
 use crate::commands::close_files::{are_all_different, close_files};
 use crate::stuck::{Stopped, Stuck, empty_handed, release};
 use crate::turns::done::end_command;
-use crate::turns::open::open_session;
+use crate::turns::open::begin_session;
 use crate::turns::registry::{drop_name, find_out};
 use crate::turns::resume::under;
 use crate::turns::session::end_session;
@@ -28,7 +28,7 @@ use ho_base::name::Name;
 use ho_base::numbers::{ObjectNo, SlotNo};
 use ho_events::command::Command;
 use ho_events::reply::Reply;
-use ho_events::slip::{At, Listed};
+use ho_events::slip::At;
 use machine_core::{Halt, Object, Reach};
 use phys_frames::folio::Folio;
 use session_core::SessionObject;
@@ -101,8 +101,8 @@ fn close_slot<R: Reach>(
     ensures stopped { IfErr result (λ s. SticksAfter (AreRest (close_acts name) (slot_found name slot)) s.stuck at.old at.new (R.shown reach.old) (R.shown reach.new)) }
     ensures given_up { IfErr result (λ s. AreOf (R.shown reach.old).anchor.home s.folios.items) }
 {
-    let (_, held) = match open_session(alloc, reach, *at, slot, Listed::nothing()) {
-        Ok(opened) => opened,
+    let held = match begin_session(reach, *at, slot) {
+        Ok(held) => held,
         Err(stuck) => return Err(empty_handed(alloc, stuck)),
     };
     if held.is_out(name) {

@@ -19,7 +19,7 @@ ghost use Rattle.luo_calls.specs.Stuck.{Sticks, turn_of};
 
 use crate::stuck::{Stopped, Stuck, empty_handed, release};
 use crate::turns::done::end_command;
-use crate::turns::open::open_session;
+use crate::turns::open::begin_session;
 use crate::turns::pin::{Pin, pin_file};
 use crate::turns::pool::mark;
 use crate::turns::registry::find_out;
@@ -31,7 +31,7 @@ use ho_base::name::Name;
 use ho_base::numbers::{FileNo, ObjectNo, Order, Pfn, SlotNo, Token};
 use ho_events::command::Command;
 use ho_events::reply::Reply;
-use ho_events::slip::{At, Listed};
+use ho_events::slip::At;
 use machine_core::{Halt, Labels, Object, Reach};
 use phys_frames::folio::Folio;
 use session_core::SessionObject;
@@ -199,8 +199,8 @@ fn preserve_in<R: Reach>(
     ensures stopped { IfErr result (λ s. SticksAfter (AreRest (preserve_acts name token file) (slot_found name slot)) s.stuck at.old at.new (R.shown reach.old) (R.shown reach.new)) }
     ensures given_up { IfErr result (λ s. AreOf (R.shown reach.old).anchor.home s.folios.items) }
 {
-    let (_, held) = match open_session(alloc, reach, *at, slot, Listed::nothing()) {
-        Ok(opened) => opened,
+    let held = match begin_session(reach, *at, slot) {
+        Ok(held) => held,
         Err(stuck) => return Err(empty_handed(alloc, stuck)),
     };
     match held.admits(name, token) {

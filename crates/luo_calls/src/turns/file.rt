@@ -19,7 +19,7 @@ ghost use Rattle.luo_calls.specs.Replies.{IsUnpinReply, IsCloseFdReply, IsGivenU
 ghost use Rattle.luo_calls.specs.Stuck.{Sticks, turn};
 
 use crate::stuck::Stuck;
-use crate::turns::open::open_file;
+use crate::turns::open::{begin_file, open_file};
 use crate::turns::resume::{resume, under};
 use ho_base::limits::{FILES, MAX_ORDER};
 use ho_base::numbers::{FileNo, Kind, ObjectNo, Order};
@@ -84,7 +84,6 @@ pub fn memfd_order(facts: Option<Facts>) -> Option<Order>
 
 /// Takes a file that a label has, which is an open memfd, and tells its order.
 pub fn open_label<R: Reach>(
-    alloc: Global,
     reach: &mut R,
     at: At,
     file: FileNo,
@@ -96,7 +95,7 @@ pub fn open_label<R: Reach>(
     ensures opened { IfOk result (λ t. FileHas t.0 (λ f. f.opened ≡ true)) }
     ensures sticks { IfErr result (λ stuck. (event : Event) → is_by_label event ≡ true → is_of_runs event ≡ true → Sticks at (turn (file_no file.0) event) stuck (R.shown reach.old) (R.shown reach.new)) }
 {
-    let (_, object) = open_file(alloc, reach, at, file, Listed::nothing())?;
+    let object = begin_file(reach, at, file)?;
     let number = ObjectNo::of_file(file);
     if !object.is_open() {
         return Err(broken_file(number, object));
@@ -108,12 +107,7 @@ pub fn open_label<R: Reach>(
 }
 
 /// Takes a file that an outgoing session has, which is a pinned memfd, and tells its order.
-fn open_pinned<R: Reach>(
-    alloc: Global,
-    reach: &mut R,
-    at: At,
-    file: FileNo,
-) -> Result<(FileObject, Order), Stuck>
+fn open_pinned<R: Reach>(reach: &mut R, at: At, file: FileNo) -> Result<(FileObject, Order), Stuck>
     requires file { file.0 < FILES }
     requires free { (R.shown reach.old).hands (file_no file.0) ≡ None }
     ensures opens { IfOk result (λ t. Opens at (file_no file.0) (R.shown reach.old) (R.shown reach.new) (Object.File t.0)) }
@@ -121,7 +115,7 @@ fn open_pinned<R: Reach>(
     ensures pinned { IfOk result (λ t. FileHas t.0 (λ f. f.pin ≡ true)) }
     ensures sticks { IfErr result (λ stuck. Sticks at (turn (file_no file.0) Event.FileUnpin) stuck (R.shown reach.old) (R.shown reach.new)) }
 {
-    let (_, object) = open_file(alloc, reach, at, file, Listed::nothing())?;
+    let object = begin_file(reach, at, file)?;
     let number = ObjectNo::of_file(file);
     if !object.is_pinned() {
         return Err(broken_file(number, object));
@@ -182,7 +176,7 @@ pub fn unpin<R: Reach>(
     ensures same_at { OnErr result (at.new ≡ at.old) }
     ensures err_given { OnErr result (given.new.items ≡ []) }
 {
-    let (mut object, order) = open_pinned(alloc, reach, *at, file)?;
+    let (mut object, order) = open_pinned(reach, *at, file)?;
     let number = ObjectNo::of_file(file);
     let slip = match resume_giving(alloc, reach, *at, object.index_count(), given) {
         Ok(slip) => slip,
@@ -216,7 +210,7 @@ pub fn close_fd<R: Reach>(
     ensures same_at { OnErr result (at.new ≡ at.old) }
     ensures err_given { OnErr result (given.new.items ≡ []) }
 {
-    let (mut object, order) = open_label(alloc, reach, *at, file)?;
+    let (mut object, order) = open_label(reach, *at, file)?;
     let number = ObjectNo::of_file(file);
     let slip = match resume_giving(alloc, reach, *at, object.index_count(), given) {
         Ok(slip) => slip,

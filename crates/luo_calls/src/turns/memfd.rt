@@ -13,20 +13,18 @@ ghost use Rattle.luo_calls.specs.Stuck.{Sticks, turn};
 
 use crate::stuck::Stuck;
 use crate::turns::file::{broken_file, memfd_order};
-use crate::turns::open::open_file;
+use crate::turns::open::begin_file;
 use ho_base::limits::FILES;
 use ho_base::numbers::{FileNo, NoMemory, ObjectNo, Order};
 use ho_events::event::Event;
-use ho_events::slip::{At, Listed};
+use ho_events::slip::At;
 use machine_core::{Halt, Object, Reach};
 use memfd_file::FileObject;
-use std::alloc::Global;
 
 /// Takes a file that a label has, which is an open memfd, and tells its order. It has memory for the indexes that a range
 /// of bytes adds to it; a size is asked for as an offset with an empty range.
 #[tactic(auto, using(crate::proofs::FileHalts::memfd_present))]
 pub fn open_memfd<R: Reach>(
-    alloc: Global,
     reach: &mut R,
     at: At,
     file: FileNo,
@@ -40,7 +38,7 @@ pub fn open_memfd<R: Reach>(
     ensures indexes { IfOk result (λ t. FileHas t.0 (λ f. wanted_indexes f (off + len) ≤ t.0.indexes)) }
     ensures sticks { IfErr result (λ stuck. (event : Event) → is_by_label event ≡ true → is_of_runs event ≡ true → Sticks at (turn (file_no file.0) event) stuck (R.shown reach.old) (R.shown reach.new)) }
 {
-    let (_, mut object) = open_file(alloc, reach, at, file, Listed::nothing())?;
+    let mut object = begin_file(reach, at, file)?;
     let number = ObjectNo::of_file(file);
     if !object.is_open() {
         return Err(broken_file(number, object));

@@ -18,19 +18,12 @@ use registry_core::Registry;
 use session_core::SessionObject;
 use std::alloc::Global;
 
-/// Takes an object for a turn, with room for its entry in its history and in the agent's log.
-pub fn open_turn<R: Reach>(
-    alloc: Global,
-    reach: &mut R,
-    at: At,
-    object: ObjectNo,
-    listed: Listed,
-) -> Result<(Slip, Object), Stuck>
+/// Takes an object for a turn, with room for its entry in its history and in the agent's log. The memory for what the
+/// entry lists is taken later, when it is known how much that is.
+pub fn begin_turn<R: Reach>(reach: &mut R, at: At, object: ObjectNo) -> Result<Object, Stuck>
     requires there { spot_at object.0 ≢ NoSpot }
     requires free { (R.shown reach.old).hands object.0 ≡ None }
-    ensures opens { IfOk result (λ t. Opens at object.0 (R.shown reach.old) (R.shown reach.new) t.1) }
-    ensures at { IfOk result (λ t. t.0.at ≡ at) }
-    ensures listed { IfOk result (λ t. t.0.room ≡ listed) }
+    ensures opens { IfOk result (λ state. Opens at object.0 (R.shown reach.old) (R.shown reach.new) state) }
     ensures sticks { IfErr result (λ stuck. Sticks at None stuck (R.shown reach.old) (R.shown reach.new)) }
 {
     if at.last >= LATE {
@@ -45,15 +38,6 @@ pub fn open_turn<R: Reach>(
             held: None,
         });
     }
-    let slip = match Slip::make(alloc, at, listed) {
-        Ok(slip) => slip,
-        Err(NoMemory) => {
-            return Err(Stuck {
-                halt: Halt::Memory,
-                held: None,
-            });
-        }
-    };
     let mut state = reach.begin(object);
     let last = state.last_stamp();
     if last >= LATE {
@@ -68,7 +52,32 @@ pub fn open_turn<R: Reach>(
             held: Some((object, state)),
         });
     }
-    Ok((slip, state))
+    Ok(state)
+}
+
+/// Takes an object for a turn, with all memory that the turn wants: what [`begin_turn`] takes, and a slip for the entry.
+pub fn open_turn<R: Reach>(
+    alloc: Global,
+    reach: &mut R,
+    at: At,
+    object: ObjectNo,
+    listed: Listed,
+) -> Result<(Slip, Object), Stuck>
+    requires there { spot_at object.0 ≢ NoSpot }
+    requires free { (R.shown reach.old).hands object.0 ≡ None }
+    ensures opens { IfOk result (λ t. Opens at object.0 (R.shown reach.old) (R.shown reach.new) t.1) }
+    ensures at { IfOk result (λ t. t.0.at ≡ at) }
+    ensures listed { IfOk result (λ t. t.0.room ≡ listed) }
+    ensures sticks { IfErr result (λ stuck. Sticks at None stuck (R.shown reach.old) (R.shown reach.new)) }
+{
+    let state = begin_turn(reach, at, object)?;
+    match Slip::make(alloc, at, listed) {
+        Ok(slip) => Ok((slip, state)),
+        Err(NoMemory) => Err(Stuck {
+            halt: Halt::Memory,
+            held: Some((object, state)),
+        }),
+    }
 }
 
 /// Takes the registry for a turn.
@@ -131,6 +140,20 @@ pub fn open_session<R: Reach>(
     }
 }
 
+/// Takes a session slot for a turn whose entry's memory is taken later.
+#[tactic(auto, using(crate::proofs::Spots::spot_at_session))]
+pub fn begin_session<R: Reach>(reach: &mut R, at: At, slot: SlotNo) -> Result<SessionObject, Stuck>
+    requires slot { slot.0 < OUT_SLOTS + IN_SLOTS }
+    requires free { (R.shown reach.old).hands (session_no slot.0) ≡ None }
+    ensures opens { IfOk result (λ session. Opens at (session_no slot.0) (R.shown reach.old) (R.shown reach.new) (Object.Session session)) }
+    ensures sticks { IfErr result (λ stuck. Sticks at None stuck (R.shown reach.old) (R.shown reach.new)) }
+{
+    match begin_turn(reach, at, ObjectNo::of_session(slot))? {
+        Object::Session(session) => Ok(session),
+        _ => unreachable!(),
+    }
+}
+
 /// Takes a file for a turn.
 #[tactic(auto, using(crate::proofs::Spots::spot_at_file))]
 pub fn open_file<R: Reach>(
@@ -149,6 +172,20 @@ pub fn open_file<R: Reach>(
 {
     match open_turn(alloc, reach, at, ObjectNo::of_file(file), listed)? {
         (slip, Object::File(file)) => Ok((slip, file)),
+        _ => unreachable!(),
+    }
+}
+
+/// Takes a file for a turn whose entry's memory is taken later.
+#[tactic(auto, using(crate::proofs::Spots::spot_at_file))]
+pub fn begin_file<R: Reach>(reach: &mut R, at: At, file: FileNo) -> Result<FileObject, Stuck>
+    requires file { file.0 < FILES }
+    requires free { (R.shown reach.old).hands (file_no file.0) ≡ None }
+    ensures opens { IfOk result (λ object. Opens at (file_no file.0) (R.shown reach.old) (R.shown reach.new) (Object.File object)) }
+    ensures sticks { IfErr result (λ stuck. Sticks at None stuck (R.shown reach.old) (R.shown reach.new)) }
+{
+    match begin_turn(reach, at, ObjectNo::of_file(file))? {
+        Object::File(file) => Ok(file),
         _ => unreachable!(),
     }
 }

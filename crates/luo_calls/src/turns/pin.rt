@@ -294,7 +294,7 @@ pub fn pin_file<R: Reach>(
     ensures stopped { IfErr result (λ s. SticksAfter (ArePins file) s.stuck at.old at.new (R.shown reach.old) (R.shown reach.new)) }
     ensures given_up { IfErr result (λ s. AreOf (R.shown reach.old).anchor.home s.folios.items) }
 {
-    let (object, order) = match open_label(alloc, reach, *at, file) {
+    let (object, order) = match open_label(reach, *at, file) {
         Ok(opened) => opened,
         Err(stuck) => return Err(empty_handed(alloc, stuck)),
     };

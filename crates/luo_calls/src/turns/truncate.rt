@@ -89,7 +89,7 @@ pub fn truncate_file<R: Reach>(
     ensures goes { IfOk result (λ r. Goes (deed_at (file_no file.0) (truncate_read file r.0 r.1) (Event.FileTruncate size) r.1 ∷ []) at.old at.new (R.shown reach.old) (R.shown reach.new)) }
     ensures sticks { IfErr result (λ stuck. SticksAfter (AreWhole (truncate_acts file size)) stuck at.old at.new (R.shown reach.old) (R.shown reach.new)) }
 {
-    let (object, order) = match open_memfd(alloc, reach, *at, file, size, 0) {
+    let (object, order) = match open_memfd(reach, *at, file, size, 0) {
         Ok(opened) => opened,
         Err(stuck) => return Err(stuck),
     };

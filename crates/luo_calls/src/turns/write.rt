@@ -241,7 +241,9 @@ fn write_filled<R: Reach>(
     Ok(Wrote::Filled(order, runs))
 }
 
-/// Takes a run for each hole that the bytes touch, and writes the file in hand.
+/// Takes a run for each hole that the bytes touch, and writes the file in hand. It stands apart, since a call sets the
+/// memory of all that is inlined into it to zeros first, and most writes touch no hole.
+#[inline(never)]
 fn write_taking<R: Reach>(
     alloc: Global,
     reach: &mut R,
@@ -326,7 +328,7 @@ pub fn write_file<R: Reach>(
     ensures given_up { IfErr result (λ s. AreOf (R.shown reach.old).anchor.home s.folios.items) }
 {
     let len = put.len();
-    let (object, order) = match open_memfd(alloc, reach, *at, file, off, len) {
+    let (object, order) = match open_memfd(reach, *at, file, off, len) {
         Ok(opened) => opened,
         Err(stuck) => return Err(empty_handed(alloc, stuck)),
     };

@@ -26,10 +26,10 @@ use ho_base::name::Name;
 use ho_base::numbers::{ObjectNo, SlotNo};
 use ho_events::command::Command;
 use ho_events::reply::Reply;
-use ho_events::slip::{At, Listed};
+use ho_events::slip::At;
 use luo_calls::commands::close_files::are_all_different;
 use luo_calls::turns::done::end_command;
-use luo_calls::turns::open::open_session;
+use luo_calls::turns::open::begin_session;
 use luo_calls::turns::resume::under;
 use luo_calls::{Stopped, Stuck, empty_handed, release};
 use machine_core::{Halt, Object, Reach};
@@ -105,8 +105,8 @@ fn finish_slot<R: Reach>(
     ensures stopped { IfErr result (λ s. SticksAfter (AreRest (finish_acts name) (slot_opened name slot)) s.stuck at.old at.new (R.shown reach.old) (R.shown reach.new)) }
     ensures given_up { IfErr result (λ s. AreOf (R.shown reach.old).anchor.home s.folios.items) }
 {
-    let (_, held) = match open_session(alloc, reach, *at, slot, Listed::nothing()) {
-        Ok(opened) => opened,
+    let held = match begin_session(reach, *at, slot) {
+        Ok(held) => held,
         Err(stuck) => return Err(empty_handed(alloc, stuck)),
     };
     if held.is_in(name) {

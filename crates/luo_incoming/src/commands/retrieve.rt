@@ -24,9 +24,9 @@ use ho_base::name::Name;
 use ho_base::numbers::{FileNo, NoMemory, ObjectNo, Order, SlotNo, Token};
 use ho_events::command::Command;
 use ho_events::reply::Reply;
-use ho_events::slip::{At, Listed};
+use ho_events::slip::At;
 use luo_calls::turns::done::end_command;
-use luo_calls::turns::open::open_session;
+use luo_calls::turns::open::begin_session;
 use luo_calls::turns::resume::under;
 use luo_calls::{Stuck, release};
 use machine_core::{Halt, Labels, Object, Reach};
@@ -149,7 +149,7 @@ fn retrieve_in<R: Reach>(
     ensures told { IfOk result IsRetrieved }
     ensures sticks { IfErr result (λ stuck. SticksAfter (AreRest (retrieve_acts name token) (slot_opened name slot)) stuck at.old at.new (R.shown reach.old) (R.shown reach.new)) }
 {
-    let (_, held) = open_session(alloc, reach, *at, slot, Listed::nothing())?;
+    let held = begin_session(reach, *at, slot)?;
     match held.find(name, token) {
         Ok(found) => open_and_take(alloc, reach, at, slot, held, name, token, found.0, found.1),
         Err(_refusal) => {

@@ -25,7 +25,7 @@ use ho_events::reply::Reply;
 use ho_events::slip::{At, Listed, Turned};
 use luo_calls::Stuck;
 use luo_calls::turns::file::broken_file;
-use luo_calls::turns::open::open_file;
+use luo_calls::turns::open::{begin_file, open_file};
 use luo_calls::turns::resume::{resume, under};
 use machine_core::{Halt, Object, Reach};
 use memfd_file::{Facts, FileObject};
@@ -154,7 +154,7 @@ pub fn finish_file<R: Reach>(
     ensures same_at { OnErr result (at.new ≡ at.old) }
     ensures err_given { OnErr result (given.new.items ≡ []) }
 {
-    let (_, object) = open_file(alloc, reach, *at, file, Listed::nothing())?;
+    let object = begin_file(reach, *at, file)?;
     if !has_session(object.facts()) {
         return Err(broken_file(ObjectNo::of_file(file), object));
     }

@@ -19,21 +19,21 @@ open_and_take-requires-clause-found g c = found_is _ c.args.name c.args.token.0 
 
 pub returns-in-Ok-clause-goes : goal.returns-in-Ok-clause-goes
 returns-in-Ok-clause-goes g c =
-    outer_comes c.args.slot c.args.name c.args.token (session_no c.args.slot.0) _ _ _ (g.R.Reach.shown c.open_session.new.reach) _ _ c.open_and_take.result c.in_ok-held.ensures.opens (ap (λ f. f (session_no c.args.slot.0)) c.requires.free) c.open_and_take.ensures.goes
+    outer_comes c.args.slot c.args.name c.args.token (session_no c.args.slot.0) _ _ _ (g.R.Reach.shown c.begin_session.new.reach) _ _ c.open_and_take.result c.in_ok-held.ensures.opens (ap (λ f. f (session_no c.args.slot.0)) c.requires.free) c.open_and_take.ensures.goes
 
 pub returns-in-Ok-clause-sticks : goal.returns-in-Ok-clause-sticks
 returns-in-Ok-clause-sticks g c =
-    outer_stops _ (session_no c.args.slot.0) _ _ _ (g.R.Reach.shown c.open_session.new.reach) _ _ c.open_and_take.result c.in_ok-held.ensures.opens (ap (λ f. f (session_no c.args.slot.0)) c.requires.free) c.open_and_take.ensures.sticks
+    outer_stops _ (session_no c.args.slot.0) _ _ _ (g.R.Reach.shown c.begin_session.new.reach) _ _ c.open_and_take.result c.in_ok-held.ensures.opens (ap (λ f. f (session_no c.args.slot.0)) c.requires.free) c.open_and_take.ensures.sticks
 
 pub returns-in_err-reply-in-Err-clause-sticks : goal.returns-in_err-reply-in-Err-clause-sticks
 returns-in_err-reply-in-Err-clause-sticks g c =
     let p = err_from_is_err_and c.from_residual-in_err-reply-in-Err.result c.from_residual-in_err-reply-in-Err.ensures.1 in rw (p.1, p.2)
-    (outer_sticks _ _ _ (session_no c.args.slot.0) _ (g.R.Reach.shown c.open_session.new.reach) _ _ c.in_ok-held.ensures.opens (ap (λ f. f (session_no c.args.slot.0)) c.requires.free)
+    (outer_sticks _ _ _ (session_no c.args.slot.0) _ (g.R.Reach.shown c.begin_session.new.reach) _ _ c.in_ok-held.ensures.opens (ap (λ f. f (session_no c.args.slot.0)) c.requires.free)
     (sticks_first (deed_at (session_no c.args.slot.0) [] (SessionTake c.args.name c.args.token) NoSession ∷ end_with NoSession ∷ []) (refused_whole c.args.name c.args.token c.args.slot NoSession tt) _ _ _ _ _ c.in_err-reply-in-Err.ensures.same_at c.in_err-reply-in-Err.ensures.sticks))
 
 pub returns-in_ok-reply-in-Err-clause-goes : goal.returns-in_ok-reply-in-Err-clause-goes
 returns-in_ok-reply-in-Err-clause-goes g c =
-    outer_goes _ _ _ (session_no c.args.slot.0) _ (g.R.Reach.shown c.open_session.new.reach) _ _ c.in_ok-held.ensures.opens (ap (λ f. f (session_no c.args.slot.0)) c.requires.free) (c.in_ok-reply-in-Err.ensures.goes [] tt)
+    outer_goes _ _ _ (session_no c.args.slot.0) _ (g.R.Reach.shown c.begin_session.new.reach) _ _ c.in_ok-held.ensures.opens (ap (λ f. f (session_no c.args.slot.0)) c.requires.free) (c.in_ok-reply-in-Err.ensures.goes [] tt)
 
 pub returns-in_ok-reply-in-Err-clause-told : goal.returns-in_ok-reply-in-Err-clause-told
 returns-in_ok-reply-in-Err-clause-told g c =

@@ -1,7 +1,7 @@
 use Rattle.std.proofs.Common.{arith}
 use Rattle.luo_calls.proofs.Opens as opens
 use Rattle.luo_calls.proofs.Sticking as sticking
-use Rattle.luo_calls.proofs.turns.open.open_turn.Goals as goal
+use Rattle.luo_calls.proofs.turns.open.begin_turn.Goals as goal
 
 pub returns-in-Err-reserve-clause-sticks : goal.returns-in-Err-reserve-clause-sticks
 returns-in-Err-reserve-clause-sticks g c =
