@@ -1,25 +1,27 @@
--- What is read of a source page by page, and what all bytes that were left are then.
-use Rattle.std.proofs.Common.{◌≡◌, ◌≢◌, ℕ, zero, suc, ◌+◌, ◌-◌, ◌*◌, ◌<◌, ◌≤◌, Bool, true, false, List, [], ◌∷◌, ◌++◌, length, map, take, drop, get_or, set, replicate, Option, Some, None, refl, sym, ap, subst, ◌∙◌, arith, inl, inr}
+-- What is read of a source block by block, and what all bytes that were left are then.
+use Rattle.std.proofs.Common.{◌≡◌, ℕ, ◌+◌, ◌-◌, ◌*◌, ◌<◌, ◌≤◌, true, List, [], ◌∷◌, ◌++◌, length, map, take, drop, get_or, set, replicate, Option, Some, None, refl, sym, ap, subst, ◌∙◌, arith}
 use borrow.Rule.Slice.PartMut.{put_mid}
-use Rattle.std.specs.Prelude.{◌&&◌, ◌==◌}
-use Rattle.std.specs.List.{All, flat_map, list_all}
+use Rattle.std.specs.Prelude.{◌==◌}
+use Rattle.std.specs.List.{All, AllWithin, flat_map, list_all}
 use Rattle.std.specs.Option.{IsSome}
 use Rattle.std.proofs.lemmas.Bool.{and_parts, eqb-true}
 use Rattle.std.proofs.Math.Seq.{take-append-add}
 use Rattle.std.proofs.lemmas.Grind.{flat_map-append}
-use Rattle.std.proofs.lemmas.List.{append-nil, length-append, length-take-le, length-replicate, length-set, length-take, length-drop, take-append-le, take_more_set, take_all, set-get_or, get_or-set_other, get_or-replicate}
+use Rattle.std.proofs.lemmas.List.{length-append, length-take-le, length-replicate, length-take, length-drop, take-append-le, take_at, take_all, set-get_or, get_or-replicate}
 use Rattle.std.proofs.lemmas.Slice.{take-put_mid_below}
-use Rattle.std.proofs.lemmas.List.Elements.{All-set, All-take, All-replicate, All-head, All-tail, All-nil, All-cons}
+use Rattle.std.proofs.lemmas.List.Elements.{All-append, All-take, All-drop, All-replicate, All-head, All-tail, All-nil, All-cons}
 use Rattle.ho_base.specs.declared.limits.TheConstants.{PAGE_BYTES}
 use Rattle.ho_io.specs.Told.{Tells, in_front}
 use Rattle.ho_io.proofs.Bytes.{in_front_none, in_front_more, in_front_all}
 use Rattle.phys_frames.specs.Memory.{zero_page}
+use Rattle.phys_frames.specs.Pages.{chunks, with_run}
+use Rattle.phys_frames.proofs.Homes.{length_run}
 use Rattle.image_file.specs.Image.{Pages, page_bytes, IsPage}
 use Rattle.image_file.specs.Loaded.{IsLess, IsMore, IsCut, IsOver, IsMiscount, zero_byte}
 use Rattle.image_file.specs.declared.loader.LoadError.{LoadError}
 use Rattle.image_file.specs.declared.loader.LoadError.TheVariants.{Fault, Image as NoImage}
 use Rattle.image_file.specs.declared.reader.ImageError.TheVariants.{BadHeader, Short, Extra, Memory}
-use Rattle.image_file.proofs.Pages.{joined_length}
+use Rattle.image_file.proofs.Pages.{joined, joined_length, cut_count, cut_wide, kept_page}
 
 -- bytes that are all 0 are zeros
 pub all_zero : (bytes : List ℕ) → list_all zero_byte bytes ≡ true → bytes ≡ replicate (length bytes) 0
@@ -55,7 +57,7 @@ pub record IsLoadedTo (count i : ℕ) (first now : Option (List ℕ)) (pages : P
   pub taken : first ≡ in_front (flat_map page_bytes (take i pages)) now
   pub size : length pages ≡ count
   pub wide : All (IsPage PAGE_BYTES) pages
-  pub blank : (k : ℕ) → i ≤ k → k < count → get_or pages k None ≡ Some zero_page
+  pub blank : AllWithin (λ page. page ≡ Some zero_page) pages i count
 
 -- no frame was read yet
 pub loaded_none : (count : ℕ) (first : Option (List ℕ)) (pages : Pages) → pages ≡ replicate count (Some zero_page) → IsLoadedTo count 0 first first pages
@@ -63,23 +65,38 @@ loaded_none count first pages e = record {
   taken = in_front_none first;
   size = ap length e ∙ length-replicate count (Some zero_page);
   wide = subst (λ (l : Pages). All (IsPage PAGE_BYTES) l) (sym e) (All-replicate (IsPage PAGE_BYTES) count (Some zero_page) zero_page_size);
-  blank = λ k low high. ap (λ (l : Pages). get_or l k None) e ∙ get_or-replicate count k (Some zero_page) None high;
+  blank = λ k d low high. ap (λ (l : Pages). get_or l k d) e ∙ get_or-replicate count k (Some zero_page) d high;
 }
 
--- one more frame was read
-pub loaded_more : (count i : ℕ) (first before now : Option (List ℕ)) (old pages : Pages) (page : List ℕ) → IsLoadedTo count i first before old → i < count
-    → length page ≡ PAGE_BYTES → before ≡ in_front page now → pages ≡ set old i (Some page) → IsLoadedTo count (i + 1) first now pages
-loaded_more count i first before now old pages page h lt size took e =
-    let front = flat_map page_bytes (take i old) in
-    let more : flat_map page_bytes (take (i + 1) (set old i (Some page))) ≡ front ++ page =
-    ap (flat_map page_bytes) (take_more_set old i (Some page) (omega (arith, h.size))) ∙ flat_map-append page_bytes (take i old) (Some page ∷ []) ∙ ap (λ (l : List ℕ). front ++ l) (append-nil page) in
+-- a block of frames more was read
+module _ (count i n : ℕ) (old pages : Pages) (block : List ℕ) (size : length old ≡ count) (within : i + n ≤ count) (wide : length block ≡ n * PAGE_BYTES) (e : pages ≡ with_run old i n (map Some (chunks PAGE_BYTES n block))) where
+  front_more : flat_map page_bytes (take (i + n) pages) ≡ flat_map page_bytes (take i old) ++ block
+  front_more =
+      let new = map Some (chunks PAGE_BYTES n block) in
+      let rest = drop (i + n) old in
+      let front : length (take i old) ≡ i = length-take-le i old (omega (arith, size, within)) in
+      ap (λ (l : Pages). flat_map page_bytes (take (i + n) l)) e
+      ∙ ap (λ (k : ℕ). flat_map page_bytes (take (k + n) (take i old ++ (new ++ rest)))) (sym front)
+      ∙ ap (flat_map page_bytes) (take-append-add (take i old) (new ++ rest) n ∙ ap (λ (l : Pages). take i old ++ l) (take_at new rest n (cut_count PAGE_BYTES n block)))
+      ∙ flat_map-append page_bytes (take i old) new
+      ∙ ap (λ (l : List ℕ). flat_map page_bytes (take i old) ++ l) (joined PAGE_BYTES n block wide)
+
+  wide_more : All (IsPage PAGE_BYTES) old → All (IsPage PAGE_BYTES) pages
+  wide_more all =
+      let new = map Some (chunks PAGE_BYTES n block) in
+      let back : All (IsPage PAGE_BYTES) (new ++ drop (i + n) old) =
+      All-append (IsPage PAGE_BYTES) new (drop (i + n) old) (cut_wide PAGE_BYTES n block wide) (All-drop (IsPage PAGE_BYTES) (i + n) old all) in
+      subst (λ (l : Pages). All (IsPage PAGE_BYTES) l) (sym e) (All-append (IsPage PAGE_BYTES) (take i old) (new ++ drop (i + n) old) (All-take (IsPage PAGE_BYTES) i old all) back)
+
+pub loaded_more : (count i n : ℕ) (first before now : Option (List ℕ)) (old pages : Pages) (block : List ℕ) → IsLoadedTo count i first before old → i + n ≤ count
+    → length block ≡ n * PAGE_BYTES → before ≡ in_front block now → pages ≡ with_run old i n (map Some (chunks PAGE_BYTES n block)) → IsLoadedTo count (i + n) first now pages
+loaded_more count i n first before now old pages block h within wide took e =
+    let room : i + n ≤ length old = omega (arith, h.size, within) in
     record {
-      taken = in_front_more first before now front page h.taken took ∙ ap (λ (l : List ℕ). in_front l now) (sym more) ∙ ap (λ (q : Pages). in_front (flat_map page_bytes (take (i + 1) q)) now) (sym e);
-      size = ap length e ∙ length-set old i (Some page) ∙ h.size;
-      wide = subst (λ (l : Pages). All (IsPage PAGE_BYTES) l) (sym e) (All-set (IsPage PAGE_BYTES) old i (Some page) size h.wide);
-      blank = λ k low high.
-          let other : k ≢ i = λ same. omega arith in
-          ap (λ (l : Pages). get_or l k None) e ∙ get_or-set_other old i k (Some page) None other ∙ h.blank k (omega arith) high;
+      taken = in_front_more first before now (flat_map page_bytes (take i old)) block h.taken took ∙ ap (λ (l : List ℕ). in_front l now) (sym (front_more count i n old pages block h.size within wide e));
+      size = ap length e ∙ length_run old i n (map Some (chunks PAGE_BYTES n block)) (cut_count PAGE_BYTES n block) room 0 None ∙ h.size;
+      wide = wide_more count i n old pages block h.size within wide e h.wide;
+      blank = λ k d low high. kept_page PAGE_BYTES i n k block old pages d room low e ∙ h.blank k d (omega (arith, low)) high;
     }
 
 -- all frames were read, and nothing is left
@@ -108,14 +125,14 @@ more_first None now front part size e le h = tt
 more_first (Some f) None front part size e le h = absurd cc
 more_first (Some f) (Some b) front part size e le h = omega (arith, ap length (some_same f (front ++ b) e), length-append front b, h)
 
--- a page that isn't there, of the bytes that were left first
-pub cut_first : (count i : ℕ) (first now : Option (List ℕ)) (pages : Pages) (e : LoadError) → IsLoadedTo count i first now pages → i < count → IsCut now PAGE_BYTES e → IsMiscount first (count * PAGE_BYTES) e
-cut_first count i first now pages Fault h lt c = tt
-cut_first count i first now pages (NoImage Short) h lt c =
-    less_first first now (flat_map page_bytes (take i pages)) PAGE_BYTES (count * PAGE_BYTES) h.taken (omega (arith, h.size, taken_size i pages h.wide (omega (arith, h.size)))) c
-cut_first count i first now pages (NoImage BadHeader) h lt c = absurd c
-cut_first count i first now pages (NoImage Extra) h lt c = absurd c
-cut_first count i first now pages (NoImage Memory) h lt c = absurd c
+-- a block that isn't all there, of the bytes that were left first
+pub cut_first : (count i n : ℕ) (first now : Option (List ℕ)) (pages : Pages) (e : LoadError) → IsLoadedTo count i first now pages → i + n ≤ count → IsCut now (n * PAGE_BYTES) e → IsMiscount first (count * PAGE_BYTES) e
+cut_first count i n first now pages Fault h within c = tt
+cut_first count i n first now pages (NoImage Short) h within c =
+    less_first first now (flat_map page_bytes (take i pages)) (n * PAGE_BYTES) (count * PAGE_BYTES) h.taken (omega (arith, h.size, within, taken_size i pages h.wide (omega (arith, h.size, within)))) c
+cut_first count i n first now pages (NoImage BadHeader) h within c = absurd c
+cut_first count i n first now pages (NoImage Extra) h within c = absurd c
+cut_first count i n first now pages (NoImage Memory) h within c = absurd c
 
 -- something behind all pages, of the bytes that were left first
 pub over_first : (count i : ℕ) (first now : Option (List ℕ)) (pages : Pages) (e : LoadError) → IsLoadedTo count i first now pages → i ≡ count → IsOver now e → IsMiscount first (count * PAGE_BYTES) e

@@ -1,14 +1,15 @@
 -- Bytes cut into pages, and pages joined to bytes.
-use Rattle.std.proofs.Common.{◌≡◌, ℕ, zero, suc, ◌+◌, ◌*◌, ◌-◌, ◌<◌, ◌≤◌, List, [], ◌∷◌, ◌++◌, length, map, take, drop, get_or, set, Option, Some, None, refl, sym, ap, subst, ◌∙◌, arith, append_assoc}
+use Rattle.std.proofs.Common.{◌≡◌, ℕ, zero, suc, ◌+◌, ◌*◌, ◌-◌, ◌<◌, ◌≤◌, List, [], ◌∷◌, ◌++◌, length, map, take, drop, get_or, set, Option, Some, None, refl, sym, ap, ◌∙◌, arith, append_assoc}
 use native.Mathlib.Nat.{zero-mul, suc-mul}
-use Rattle.std.proofs.lemmas.List.{append-nil, length-drop, length-append, length-map, take-append-drop, take_at, drop_at, drop-drop, drop_all, set_at, drop_more, take_more, take_all, get_or_at, map-append}
+use Rattle.std.proofs.lemmas.List.{append-nil, length-drop, length-append, length-map, take-append-drop, take_at, drop_at, drop-drop, drop_all, set_at, drop_more, take_more, take_all, set-append_right, length-take-le, map-append}
 use Rattle.std.proofs.lemmas.Grind.{flat_map-append}
 use Rattle.std.proofs.lemmas.Slice.{take-put_mid}
 use borrow.Rule.Slice.PartMut.{put_mid}
 use Rattle.std.specs.List.{All, flat_map}
 use Rattle.std.specs.Option.{IsSome}
 use Rattle.std.proofs.lemmas.List.Elements.{All-nil, All-cons, All-head, All-tail}
-use Rattle.phys_frames.specs.Pages.{chunks}
+use Rattle.phys_frames.specs.Pages.{chunks, with_run}
+use Rattle.phys_frames.proofs.Homes.{run_after}
 use Rattle.image_file.specs.Image.{Pages, page_bytes, IsPage}
 
 module _ (size : ℕ) where
@@ -75,30 +76,51 @@ gathered_more size i width pages page block next lt e wide le h is =
 pub gathered_all : (size n : ℕ) (pages : Pages) (block : List ℕ) → length block ≡ n * size → take (n * size) block ≡ flat_map page_bytes (take n pages) → block ≡ flat_map page_bytes (take n pages)
 gathered_all size n pages block wide h = sym (take_all (n * size) block (omega (arith, wide))) ∙ h
 
+-- as many frames as pages were cut
+pub cut_count : (size n : ℕ) (bytes : List ℕ) → length (map Some (chunks size n bytes)) ≡ n
+cut_count size n bytes = length-map (chunks size n bytes) Some ∙ length_chunks size n bytes
+
+-- all of them have a page
+pub cut_wide : (size n : ℕ) (bytes : List ℕ) → length bytes ≡ n * size → All (IsPage size) (map Some (chunks size n bytes))
+cut_wide size zero bytes e = All-nil (IsPage size)
+cut_wide size (suc n) bytes e =
+    let all : length bytes ≡ size + n * size = omega (arith, e, suc-mul n size) in
+    All-cons (IsPage size) (Some (take size bytes)) (map Some (chunks size n (drop size bytes))) (length-take-le size bytes (omega (arith, all)))
+    (cut_wide size n (drop size bytes) (omega (arith, all, length-drop size bytes)))
+
 -- a frame that was not filled yet is as it was
-pub kept_page : (size i : ℕ) (bytes : List ℕ) (old now : Pages) → i < length old → now ≡ map Some (chunks size i bytes) ++ drop i old → get_or now i None ≡ get_or old i None
-kept_page size i bytes old now lt e =
-    let count : length (map Some (chunks size i bytes)) ≡ i = length-map (chunks size i bytes) Some ∙ length_chunks size i bytes in
-    ap (λ (l : Pages). get_or l i None) (e ∙ ap (λ (l : Pages). map Some (chunks size i bytes) ++ l) (drop_more old i None lt))
-    ∙ get_or_at (map Some (chunks size i bytes)) (get_or old i None) (drop (i + 1) old) None i count
+pub kept_page : (size first i k : ℕ) (bytes : List ℕ) (old now : Pages) (d : Option (List ℕ)) → first + i ≤ length old → first + i ≤ k → now ≡ with_run old first i (map Some (chunks size i bytes)) → get_or now k d ≡ get_or old k d
+kept_page size first i k bytes old now d within past e =
+    ap (λ (l : Pages). get_or l k d) e ∙ run_after old first i (map Some (chunks size i bytes)) (cut_count size i bytes) within k d past
+
+-- no frame was filled yet
+pub filled_none : (size first : ℕ) (bytes : List ℕ) (old : Pages) → old ≡ with_run old first 0 (map Some (chunks size 0 bytes))
+filled_none size first bytes old =
+    let same : first + 0 ≡ first = omega arith in
+    sym (ap (λ (k : ℕ). take first old ++ drop k old) same ∙ take-append-drop first old)
 
 -- one more frame was filled
-pub filled_more : (size i : ℕ) (bytes page : List ℕ) (old now next : Pages) → i < length old → now ≡ map Some (chunks size i bytes) ++ drop i old
-    → page ≡ take size (drop (i * size) bytes) → next ≡ set now i (Some page) → next ≡ map Some (chunks size (i + 1) bytes) ++ drop (i + 1) old
-filled_more size i bytes page old now next lt e f h =
-    let count : length (map Some (chunks size i bytes)) ≡ i = length-map (chunks size i bytes) Some ∙ length_chunks size i bytes in
-    let more : map Some (chunks size (i + 1) bytes) ≡ map Some (chunks size i bytes) ++ Some page ∷ [] =
+pub filled_more : (size first i : ℕ) (bytes page : List ℕ) (old now next : Pages) → first + i < length old → now ≡ with_run old first i (map Some (chunks size i bytes))
+    → page ≡ take size (drop (i * size) bytes) → next ≡ set now (first + i) (Some page) → next ≡ with_run old first (i + 1) (map Some (chunks size (i + 1) bytes))
+filled_more size first i bytes page old now next lt e f h =
+    let front = take first old in
+    let pages = map Some (chunks size i bytes) in
+    let there = get_or old (first + i) None in
+    let rest = drop (first + i + 1) old in
+    let more : map Some (chunks size (i + 1) bytes) ≡ pages ++ Some page ∷ [] =
     ap (map Some) (chunks_more size i bytes ∙ ap (λ (l : List ℕ). chunks size i bytes ++ l ∷ []) (sym f)) ∙ map-append Some (chunks size i bytes) (page ∷ []) in
-    h ∙ ap (λ (l : Pages). set l i (Some page)) (e ∙ ap (λ (l : Pages). map Some (chunks size i bytes) ++ l) (drop_more old i None lt))
-    ∙ set_at (map Some (chunks size i bytes)) (get_or old i None) (drop (i + 1) old) (Some page) i count
-    ∙ sym (append_assoc (map Some (chunks size i bytes)) (Some page ∷ []) (drop (i + 1) old))
-    ∙ ap (λ (l : Pages). l ++ drop (i + 1) old) (sym more)
+    let last : first + i + 1 ≡ first + (i + 1) = omega arith in
+    let at : first + i - first ≡ i = omega arith in
+    h ∙ ap (λ (l : Pages). set l (first + i) (Some page)) (e ∙ ap (λ (l : Pages). front ++ (pages ++ l)) (drop_more old (first + i) None lt))
+    ∙ set-append_right front (pages ++ there ∷ rest) first (first + i) (Some page) (length-take-le first old (omega (arith, lt))) (omega arith)
+    ∙ ap (λ (k : ℕ). front ++ set (pages ++ there ∷ rest) k (Some page)) at
+    ∙ ap (λ (l : Pages). front ++ l) (set_at pages there rest (Some page) i (cut_count size i bytes) ∙ sym (append_assoc pages (Some page ∷ []) rest) ∙ ap (λ (l : Pages). l ++ rest) (sym more))
+    ∙ ap (λ (k : ℕ). front ++ (map Some (chunks size (i + 1) bytes) ++ drop k old)) last
 
 -- all frames were filled
-pub filled_all : (size i : ℕ) (bytes : List ℕ) (old now : Pages) → i ≡ length old → now ≡ map Some (chunks size i bytes) ++ drop i old → now ≡ map Some (chunks size (length old) bytes)
-filled_all size i bytes old now e h =
-    h ∙ ap (λ (l : Pages). map Some (chunks size i bytes) ++ l) (drop_all i old (omega arith)) ∙ append-nil (map Some (chunks size i bytes))
-    ∙ ap (λ (k : ℕ). map Some (chunks size k bytes)) e
+pub filled_all : (size n : ℕ) (bytes : List ℕ) (old now : Pages) → length old ≡ n → now ≡ with_run old 0 n (map Some (chunks size n bytes)) → now ≡ map Some (chunks size n bytes)
+filled_all size n bytes old now e h =
+    h ∙ ap (λ (l : Pages). map Some (chunks size n bytes) ++ l) (drop_all (0 + n) old (omega (arith, e))) ∙ append-nil (map Some (chunks size n bytes))
 
 -- a list of pages of bytes has no frame that is out
 pub all_home : (pages : List (List ℕ)) → All IsSome (map Some pages)
@@ -106,6 +128,6 @@ all_home [] = All-nil IsSome
 all_home (page ∷ pages) = All-cons IsSome (Some page) (map Some pages) refl (all_home pages)
 
 -- the frames that were filled are those of the bytes behind the header
-pub frames_read : (size count : ℕ) (bytes part : List ℕ) (old now : Pages) → length old ≡ count → part ≡ drop 32 bytes → now ≡ map Some (chunks size (length old) part)
+pub frames_read : (size count n : ℕ) (bytes part : List ℕ) (old now : Pages) → n ≡ count → length old ≡ n → part ≡ drop 32 bytes → now ≡ with_run old 0 n (map Some (chunks size n part))
     → now ≡ map Some (chunks size count (drop 32 bytes))
-frames_read size count bytes part old now e f g = g ∙ (λ i. map Some (chunks size (e i) (f i)))
+frames_read size count n bytes part old now e all f g = filled_all size n part old now all g ∙ (λ i. map Some (chunks size (e i) (f i)))

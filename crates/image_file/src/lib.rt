@@ -1,6 +1,7 @@
 //! Images of a machine's frames as files: written to any sink, and read from bytes.
 #![tactic(auto)]
 
+mod blocks;
 mod header;
 mod laws;
 mod loader;

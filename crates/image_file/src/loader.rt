@@ -1,23 +1,22 @@
 //! Frames from what a source gives.
 
-ghost use Rattle.std.specs.Prelude.{◌≡◌, ◌<◌, ◌≤◌, ◌*◌, [], length, take, replicate, IfErr, IfOk, IsTrue, OnErr, OnOk, Some};
-ghost use Rattle.std.specs.List.{All, flat_map, list_all};
+ghost use Rattle.std.specs.Prelude.{◌≡◌, ◌<◌, ◌≤◌, ◌+◌, ◌*◌, [], length, map, take, replicate, IfErr, IfOk, IsTrue, OnErr, OnOk, Some};
+ghost use Rattle.std.specs.List.{All, AllWithin, flat_map};
 ghost use Rattle.ho_base.specs.declared.limits.TheConstants.{PAGE_BYTES, MIN_FRAMES, MAX_FRAMES};
 ghost use Rattle.ho_io.specs.Told.{Rose, Tells, in_front};
-ghost use Rattle.phys_frames.specs.Memory.{AllHome, page_at, with_page, zero_page};
+ghost use Rattle.phys_frames.specs.Memory.{AllHome, zero_page};
+ghost use Rattle.phys_frames.specs.Pages.{chunks, with_run};
 ghost use Rattle.image_file.specs.Image.{has_header as header_rule, count_of, page_bytes, IsPage};
-ghost use Rattle.image_file.specs.Loaded.{IsCut, IsFaultOf, IsLoaded, IsMiscount, IsOver, zero_byte};
+ghost use Rattle.image_file.specs.Loaded.{IsCut, IsFaultOf, IsLoaded, IsMiscount, IsOver};
 
+use crate::blocks::{BLOCK_BYTES, BLOCK_FRAMES};
 use crate::header::HEADER_BYTES;
-use crate::reader::{ImageError, count_in, entry_in, fill_page, has_header};
+use crate::reader::{ImageError, count_in, entry_in, has_header, put_pages};
 use ho_base::limits::{MAX_FRAMES, MIN_FRAMES, PAGE_BYTES};
-use ho_base::numbers::{Failed, NoMemory, Pfn};
+use ho_base::numbers::{Failed, NoMemory};
 use ho_io::Source;
 use phys_frames::Frames;
 use std::alloc::Global;
-
-/// The bytes that are read at a time: those of a frame.
-const BLOCK_BYTES: usize = 4096;
 
 /// Why a source gave no frames.
 #[derive(Clone, Copy, Debug, PartialEq)]
@@ -105,9 +104,10 @@ fn load_frames<S: Source>(alloc: Global, src: &mut S, count: u32) -> Result<Fram
     }
 }
 
-/// Reads pages into all frames in order, and sees that nothing is left then.
+/// Reads pages into all frames in order, those of 16 at a time, and sees that nothing is left then.
 fn load_pages<S: Source>(src: &mut S, frames: &mut Frames, count: u32) -> Result<(), LoadError>
-    requires { frames.old.pages ≡ replicate count (Some zero_page) }
+    requires pages { frames.old.pages ≡ replicate count (Some zero_page) }
+    requires most { count ≤ MAX_FRAMES }
     ensures all { OnOk result (Tells (S.left src.old) (flat_map page_bytes frames.new.pages)) }
     ensures pages { All (IsPage PAGE_BYTES) frames.new.pages }
     ensures count { length frames.new.pages ≡ count }
@@ -117,28 +117,35 @@ fn load_pages<S: Source>(src: &mut S, frames: &mut Frames, count: u32) -> Result
     ensures counts { S.faults src.old ≤ S.faults src.new }
 {
     let mut block = [0; BLOCK_BYTES];
-    for p in 0..count {
-        match load_page(src, frames, Pfn(p), &mut block) {
-            Ok(()) => {}
+    let mut done = 0;
+    while done < count {
+        let many = BLOCK_FRAMES.min(count - done);
+        let len = many as usize * PAGE_BYTES as usize;
+        match load_block(src, frames, done, many, &mut block[..len]) {
+            Ok(()) => done += many,
             Err(error) => return Err(error),
         }
     }
     see_end(src)
 }
 
-/// Reads a page into a frame of zeros.
-fn load_page<S: Source>(
+/// Reads the bytes of a run of frames of zeros in one piece, and puts them there. Where they are cut short the frames
+/// stay as they are.
+fn load_block<S: Source>(
     src: &mut S,
     frames: &mut Frames,
-    p: Pfn,
+    first: u32,
+    many: u32,
     block: &mut [u8],
 ) -> Result<(), LoadError>
-    requires blank { page_at frames.old p ≡ Some zero_page }
-    requires size { length block.old ≡ PAGE_BYTES }
+    requires within { first + many ≤ length frames.old.pages }
+    requires few { first + many ≤ MAX_FRAMES }
+    requires blank { AllWithin (λ page. page ≡ Some zero_page) frames.old.pages first (first + many) }
+    requires size { length block.old ≡ many * PAGE_BYTES }
     ensures taken { OnOk result (S.left src.old ≡ in_front block.new (S.left src.new)) }
-    ensures filled { OnOk result (frames.new ≡ with_page frames.old p block.new) }
+    ensures filled { OnOk result (frames.new.pages ≡ with_run frames.old.pages first many (map Some (chunks PAGE_BYTES many block.new))) }
     ensures kept { OnErr result (frames.new ≡ frames.old) }
-    ensures cut { IfErr result (λ e. IsCut (S.left src.old) PAGE_BYTES e) }
+    ensures cut { IfErr result (λ e. IsCut (S.left src.old) (many * PAGE_BYTES) e) }
     ensures cause { IfErr result (λ e. e ≡ LoadError.Fault → Rose (S.faults src.old) (S.faults src.new)) }
     ensures counts { S.faults src.old ≤ S.faults src.new }
 {
@@ -147,7 +154,7 @@ fn load_page<S: Source>(
             if count < block.len() {
                 return Err(LoadError::Image(ImageError::Short));
             }
-            put_page(frames, p, block);
+            put_pages(frames, first, many, block);
             Ok(())
         }
         Err(_) => Err(LoadError::Fault),
@@ -186,26 +193,4 @@ fn read_full<S: Source>(src: &mut S, buf: &mut [u8]) -> Result<usize, Failed>
         }
     }
     Ok(done)
-}
-
-/// Puts bytes into a frame of zeros. Where they are zeros too the frame is left as it is.
-fn put_page(frames: &mut Frames, p: Pfn, bytes: &[u8])
-    requires blank { page_at frames.old p ≡ Some zero_page }
-    requires size { length bytes.now ≡ PAGE_BYTES }
-    ensures { frames.new ≡ with_page frames.old p bytes.now }
-{
-    if !is_zero(bytes) {
-        fill_page(frames, p, bytes);
-    }
-}
-
-/// Whether all bytes are 0. Each is looked at, so that several are at a time.
-fn is_zero(bytes: &[u8]) -> bool
-    ensures { result ≡ list_all zero_byte bytes.now }
-{
-    let mut all = true;
-    for b in bytes {
-        all &= *b == 0;
-    }
-    all
 }

@@ -1,10 +1,12 @@
 //! Frames from an image's bytes.
 
-ghost use Rattle.std.specs.Prelude.{◌≡◌, ◌*◌, ◌≤◌, IfErr, IfOk, IsTrue, MatchOption, None, OnOk, Some, length, map, ⊤};
+ghost use Rattle.std.specs.Prelude.{◌≡◌, ◌+◌, ◌*◌, ◌≤◌, IfErr, IfOk, IsTrue, MatchOption, None, OnOk, Some, length, map, ⊤};
+ghost use Rattle.std.specs.List.{AllWithin, list_all};
 ghost use Rattle.ho_base.specs.declared.limits.TheConstants.{PAGE_BYTES, MIN_FRAMES, MAX_FRAMES};
-ghost use Rattle.phys_frames.specs.Memory.{AllHome, IsHome, with_page};
-ghost use Rattle.phys_frames.specs.Pages.{chunks};
+ghost use Rattle.phys_frames.specs.Memory.{AllHome, IsHome, page_at, with_page, zero_page};
+ghost use Rattle.phys_frames.specs.Pages.{chunks, with_run};
 ghost use Rattle.image_file.specs.Image.{image, IsSized, has_word, has_header as header_rule, fault_of, fault_told, frames_of, count_of, entry_of, last_of};
+ghost use Rattle.image_file.specs.Loaded.{zero_byte};
 
 use crate::header::{HEADER_BYTES, IMAGE_WORD};
 use ho_base::bytes::get_u64;
@@ -28,7 +30,7 @@ pub enum ImageError {
 }
 
 /// The frames of an image, all home, and the number of its entry frame, which may be any number. It takes memory for
-/// the frames alone, and its cost is linear in the bytes.
+/// the frames alone, a page of zeros is not copied, and the cost is linear in the bytes.
 ///
 /// # Errors
 /// [`ImageError`]: one of the first three exactly where the bytes are no image.
@@ -123,30 +125,59 @@ fn frames_in(alloc: Global, bytes: &[u8]) -> Result<Frames, NoMemory>
     requires { IsSized bytes.now }
     ensures { IfOk result (λ f. f.pages ≡ frames_of bytes.now) }
 {
-    match Frames::zeroed(alloc, count_in(bytes) as u32) {
+    let count = count_in(bytes) as u32;
+    match Frames::zeroed(alloc, count) {
         Ok(frames) => {
             let mut frames = frames;
-            fill(&mut frames, &bytes[HEADER_BYTES..]);
+            put_pages(&mut frames, 0, count, &bytes[HEADER_BYTES..]);
             Ok(frames)
         }
         Err(NoMemory) => Err(NoMemory),
     }
 }
 
-/// Puts bytes into all frames in order.
-fn fill(frames: &mut Frames, bytes: &[u8])
-    requires home { AllHome frames.old }
-    requires size { length bytes.now ≡ length frames.old.pages * PAGE_BYTES }
-    ensures { frames.new.pages ≡ map Some (chunks PAGE_BYTES (length frames.old.pages) bytes.now) }
+/// Puts bytes into a run of frames of zeros in order.
+pub(crate) fn put_pages(frames: &mut Frames, first: u32, many: u32, bytes: &[u8])
+    requires within { first + many ≤ length frames.old.pages }
+    requires few { first + many ≤ MAX_FRAMES }
+    requires blank { AllWithin (λ page. page ≡ Some zero_page) frames.old.pages first (first + many) }
+    requires size { length bytes.now ≡ many * PAGE_BYTES }
+    ensures { frames.new.pages ≡ with_run frames.old.pages first many (map Some (chunks PAGE_BYTES many bytes.now)) }
 {
-    for p in 0..frames.count() {
-        let from = p as usize * PAGE_BYTES as usize;
-        fill_page(frames, Pfn(p), &bytes[from..from + PAGE_BYTES as usize]);
+    for i in 0..many {
+        let from = i as usize * PAGE_BYTES as usize;
+        put_page(
+            frames,
+            Pfn(first + i),
+            &bytes[from..from + PAGE_BYTES as usize],
+        );
     }
 }
 
+/// Puts bytes into a frame of zeros. Where they are zeros too the frame is left as it is.
+fn put_page(frames: &mut Frames, p: Pfn, bytes: &[u8])
+    requires blank { page_at frames.old p ≡ Some zero_page }
+    requires size { length bytes.now ≡ PAGE_BYTES }
+    ensures { frames.new ≡ with_page frames.old p bytes.now }
+{
+    if !is_zero(bytes) {
+        fill_page(frames, p, bytes);
+    }
+}
+
+/// Whether all bytes are 0. Each is looked at, so that several are at a time.
+fn is_zero(bytes: &[u8]) -> bool
+    ensures { result ≡ list_all zero_byte bytes.now }
+{
+    let mut all = true;
+    for b in bytes {
+        all &= *b == 0;
+    }
+    all
+}
+
 /// Puts bytes into one frame.
-pub(crate) fn fill_page(frames: &mut Frames, p: Pfn, bytes: &[u8])
+fn fill_page(frames: &mut Frames, p: Pfn, bytes: &[u8])
     requires home { IsHome frames.old p }
     requires size { length bytes.now ≡ PAGE_BYTES }
     ensures { frames.new ≡ with_page frames.old p bytes.now }

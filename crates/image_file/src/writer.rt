@@ -8,18 +8,13 @@ ghost use Rattle.phys_frames.specs.Memory.{AllHome};
 ghost use Rattle.image_file.specs.Image.{image, page_bytes};
 ghost use Rattle.image_file.specs.Written.{WrotePart};
 
+use crate::blocks::{BLOCK_BYTES, BLOCK_FRAMES};
 use crate::header::header_of;
 use ho_base::limits::{MAX_FRAMES, PAGE_BYTES};
 use ho_base::numbers::{Failed, Pfn};
 use ho_io::{Sink, write_all};
 use phys_frames::Frames;
 use scratch_area::Handoff;
-
-/// How many frames are written at a time.
-const BLOCK_FRAMES: u32 = 16;
-
-/// The bytes of so many frames.
-const BLOCK_BYTES: usize = 65_536;
 
 /// Writes the image of what is handed on: its frames and the number of its entry frame. It takes no memory, and its cost
 /// is linear in the bytes.

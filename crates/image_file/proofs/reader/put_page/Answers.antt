@@ -1,7 +1,7 @@
-use Rattle.std.proofs.Common.{◌≡◌, List, ℕ, Option, ap, sym, ◌∙◌}
+use Rattle.std.proofs.Common.{List, ℕ, Option, ap, sym, ◌∙◌}
 use Rattle.phys_frames.specs.Memory.{Memory, zero_page}
 use Rattle.image_file.proofs.Loading.{is_zero_page, kept_as}
-use Rattle.image_file.proofs.loader.put_page.Goals as goal
+use Rattle.image_file.proofs.reader.put_page.Goals as goal
 
 pub returns-else-not-is_zero : goal.returns-else-not-is_zero
 returns-else-not-is_zero c =
