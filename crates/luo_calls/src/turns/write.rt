@@ -241,9 +241,7 @@ fn write_filled<R: Reach>(
     Ok(Wrote::Filled(order, runs))
 }
 
-/// Takes a run for each hole that the bytes touch, and writes the file in hand. It stands apart, since a call sets the
-/// memory of all that is inlined into it to zeros first, and most writes touch no hole.
-#[inline(never)]
+/// Takes a run for each hole that the bytes touch, and writes the file in hand.
 fn write_taking<R: Reach>(
     alloc: Global,
     reach: &mut R,
